@@ -1,0 +1,62 @@
+use Rattle.octets.proofs.copy.Statement.{statement}
+use Rattle.octets.proofs.copy.Tie as tie
+use Rattle.octets.proofs.copy.Reads as reads
+use Rattle.octets.proofs.copy.Lts as lts
+
+abbrev Inv-loop : tie.InvT-loop
+Inv-loop dst₀ at src i₀ dst i = ?
+
+abbrev μ-loop : tie.MeasureT-loop
+μ-loop dst₀ at src i₀ dst i = ?
+
+-- src/lib.rt:125:5
+loop-holds : tie.Need-loop-holds Inv-loop μ-loop
+loop-holds c = ?
+
+-- src/lib.rt:126:23
+shared-slice-read-dst : tie.Need-shared-slice-read-dst Inv-loop μ-loop
+shared-slice-read-dst c = ?
+
+-- src/lib.rt:126:13
+add-dst : tie.Need-add-dst Inv-loop μ-loop
+add-dst c = ?
+
+-- src/lib.rt:126:9
+slice-write-dst : tie.Need-slice-write-dst Inv-loop μ-loop
+slice-write-dst c = ?
+
+-- src/lib.rt:127:9
+add-i : tie.Need-add-i Inv-loop μ-loop
+add-i c = ?
+
+-- src/lib.rt:125:5
+loop-less : tie.Need-loop-less Inv-loop μ-loop
+loop-less c = ?
+
+-- src/lib.rt:125:5
+loop-again : tie.Need-loop-again Inv-loop μ-loop
+loop-again c = ?
+
+-- src/lib.rt:120:1
+same-length : tie.Need-same-length Inv-loop μ-loop
+same-length c = ?
+
+-- src/lib.rt:120:1
+returns : tie.Need-returns Inv-loop μ-loop
+returns c = ?
+
+pub copy-spec : {M : Type 1} → statement M
+copy-spec =
+    tie.close
+    (tie.spec
+    Inv-loop
+    μ-loop
+    loop-holds
+    shared-slice-read-dst
+    add-dst
+    slice-write-dst
+    add-i
+    loop-less
+    loop-again
+    same-length
+    returns)
