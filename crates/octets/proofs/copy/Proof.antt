@@ -1,49 +1,45 @@
+-- After i turns the first i bytes are in place, by copy-again.
+use borrow.Author.Needs.{needs}
+use Rattle.octets.proofs.LoopLaws.{copy-none, copy-again, copy-done}
+use Prim.Native.Nat.{_+_, _-_, _≤_}
+use mathlib.Core.Path.{_≡_, refl}
+use lib.ListN.{length, take, length-set}
+use Rattle.octets.specs.Octets.{put}
 use Rattle.octets.proofs.copy.Statement.{statement}
 use Rattle.octets.proofs.copy.Tie as tie
-use Rattle.octets.proofs.copy.Reads as reads
-use Rattle.octets.proofs.copy.Lts as lts
 
 abbrev Inv-loop : tie.InvT-loop
-Inv-loop dst₀ at src i₀ dst i = ?
+Inv-loop dst₀ at src i₀ dst i = (i ≤ length src) × (length dst ≡ length dst₀) × (dst ≡ put at (take i src) dst₀)
 
 abbrev μ-loop : tie.MeasureT-loop
-μ-loop dst₀ at src i₀ dst i = ?
+μ-loop dst₀ at src i₀ dst i = length src - i
 
--- src/lib.rt:125:5
 loop-holds : tie.Need-loop-holds Inv-loop μ-loop
-loop-holds c = ?
+loop-holds c = (search needs, refl, copy-none (c .args .dst .now) (c .args .src .now) (c .args .at))
 
--- src/lib.rt:126:23
 shared-slice-read-dst : tie.Need-shared-slice-read-dst Inv-loop μ-loop
-shared-slice-read-dst c = ?
+shared-slice-read-dst c = search needs
 
--- src/lib.rt:126:13
 add-dst : tie.Need-add-dst Inv-loop μ-loop
-add-dst c = ?
+add-dst c = search needs
 
--- src/lib.rt:126:9
 slice-write-dst : tie.Need-slice-write-dst Inv-loop μ-loop
-slice-write-dst c = ?
+slice-write-dst c = search needs
 
--- src/lib.rt:127:9
 add-i : tie.Need-add-i Inv-loop μ-loop
-add-i c = ?
+add-i c = search needs
 
--- src/lib.rt:125:5
 loop-less : tie.Need-loop-less Inv-loop μ-loop
-loop-less c = ?
+loop-less c = search needs
 
--- src/lib.rt:125:5
 loop-again : tie.Need-loop-again Inv-loop μ-loop
-loop-again c = ?
+loop-again c = (search needs, simp length-set (c .before .before .loop .inv .1), copy-again (c .before .before .before .args .dst .now) (c .before .before .before .args .src .now) (c .before .before .before .args .at) _ (c .before .before .loop .i) (c .before .before .before .pre) (c .before .loop-test .taken) (c .before .before .loop .inv .2))
 
--- src/lib.rt:120:1
 same-length : tie.Need-same-length Inv-loop μ-loop
-same-length c = ?
+same-length c = search needs
 
--- src/lib.rt:120:1
 returns : tie.Need-returns Inv-loop μ-loop
-returns c = ?
+returns c = copy-done (c .before .before .args .dst .now) (c .before .before .args .src .now) (c .before .before .args .at) _ (c .before .loop .i) (c .loop-test .left) (c .before .loop .inv .2)
 
 pub copy-spec : {M : Type 1} → statement M
 copy-spec =

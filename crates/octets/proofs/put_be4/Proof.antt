@@ -1,61 +1,49 @@
+-- Four stores put the bytes in place, by put-be-four.
+use Rattle.octets.proofs.PartLaws.{put-be-four}
+use native.Mathlib.Omega.{arith}
+use lib.ListN.{length-set}
 use borrow.Author.Needs.{needs}
 use Rattle.octets.proofs.put_be4.Statement.{statement}
 use Rattle.octets.proofs.put_be4.Tie as tie
-use Rattle.octets.proofs.put_be4.Reads as reads
-use Rattle.octets.proofs.put_be4.Lts as lts
-use Rattle.octets.proofs.low.Reads as low-reads
 
--- src/lib.rt:84:13
 low-requires : tie.Need-low-requires
 low-requires c κs = search needs
 
--- src/lib.rt:84:5
 slice-write-s : tie.Need-slice-write-s
 slice-write-s c = search needs
 
--- src/lib.rt:85:17
 low-requires-2 : tie.Need-low-requires-2
 low-requires-2 c κs = search needs
 
--- src/lib.rt:85:7
 add-s : tie.Need-add-s
 add-s c = search needs
 
--- src/lib.rt:85:5
 slice-write-s-2 : tie.Need-slice-write-s-2
-slice-write-s-2 c = ?
+slice-write-s-2 c = simp length-set (omega arith)
 
--- src/lib.rt:86:17
 low-requires-3 : tie.Need-low-requires-3
 low-requires-3 c κs = search needs
 
--- src/lib.rt:86:7
 add-s-2 : tie.Need-add-s-2
 add-s-2 c = search needs
 
--- src/lib.rt:86:5
 slice-write-s-3 : tie.Need-slice-write-s-3
-slice-write-s-3 c = ?
+slice-write-s-3 c = simp length-set (omega arith)
 
--- src/lib.rt:87:17
 low-requires-4 : tie.Need-low-requires-4
 low-requires-4 c κs = search needs
 
--- src/lib.rt:87:7
 add-s-3 : tie.Need-add-s-3
 add-s-3 c = search needs
 
--- src/lib.rt:87:5
 slice-write-s-4 : tie.Need-slice-write-s-4
-slice-write-s-4 c = ?
+slice-write-s-4 c = simp length-set (omega arith)
 
--- src/lib.rt:80:1
 same-length : tie.Need-same-length
 same-length c = search needs
 
--- src/lib.rt:80:1
 returns : tie.Need-returns
-returns c = ?
+returns c = put-be-four (c .before .before .before .before .before .args .at) (c .before .before .before .before .before .args .s .now) (c .before .before .before .before .before .args .x) _ _ _ _ (c .before .before .before .before .before .pre) (c .before .before .before .low .ensures) (c .before .before .low2 .ensures) (c .before .low3 .ensures) (c .low4 .ensures)
 
 pub put-be4-spec : {M : Type 1} → statement M
 put-be4-spec =

@@ -1,41 +1,41 @@
+-- Nothing differed so far and the rest is the same, by same-again.
+use borrow.Author.Needs.{needs}
+use Rattle.octets.proofs.LoopLaws.{same-none, same-again, same-done}
+use Prim.Native.Nat.{_+_, _-_, _≤_}
+use mathlib.Core.Path.{_≡_, refl}
+use mathlib.Core.Bool.{_&&_}
+use lib.Dec.{eqb}
+use lib.ListN.{length, drop}
+use Rattle.octets.specs.Octets.{same}
 use Rattle.octets.proofs.same.Statement.{statement}
 use Rattle.octets.proofs.same.Tie as tie
-use Rattle.octets.proofs.same.Reads as reads
-use Rattle.octets.proofs.same.Lts as lts
 
 abbrev Inv-loop : tie.InvT-loop
-Inv-loop a b d₀ i₀ d i = ?
+Inv-loop a b d₀ i₀ d i = (i ≤ length a) × ((eqb d 0 && same (drop i a) (drop i b)) ≡ same a b)
 
 abbrev μ-loop : tie.MeasureT-loop
-μ-loop a b d₀ i₀ d i = ?
+μ-loop a b d₀ i₀ d i = length a - i
 
--- src/lib.rt:138:5
 loop-holds : tie.Need-loop-holds Inv-loop μ-loop
-loop-holds c = ?
+loop-holds c = (search needs, same-none _ _)
 
--- src/lib.rt:139:18
 shared-slice-read-d : tie.Need-shared-slice-read-d Inv-loop μ-loop
-shared-slice-read-d c = ?
+shared-slice-read-d c = search needs
 
--- src/lib.rt:139:25
 shared-slice-read-d-2 : tie.Need-shared-slice-read-d-2 Inv-loop μ-loop
-shared-slice-read-d-2 c = ?
+shared-slice-read-d-2 c = search needs
 
--- src/lib.rt:140:9
 add-i : tie.Need-add-i Inv-loop μ-loop
-add-i c = ?
+add-i c = search needs
 
--- src/lib.rt:138:5
 loop-less : tie.Need-loop-less Inv-loop μ-loop
-loop-less c = ?
+loop-less c = search needs
 
--- src/lib.rt:138:5
 loop-again : tie.Need-loop-again Inv-loop μ-loop
-loop-again c = ?
+loop-again c = (search needs, same-again _ _ _ (c .before .before .before .loop .d) (c .before .before .before .loop .i) (search needs) (search needs) (c .before .before .before .loop .inv .1))
 
--- src/lib.rt:132:1
 returns : tie.Need-returns Inv-loop μ-loop
-returns c = ?
+returns c = same-done _ _ _ (c .before .loop .d) (c .before .loop .i) (search needs) (search needs) (c .before .loop .inv .1)
 
 pub same-spec : {M : Type 1} → statement M
 same-spec =

@@ -1,45 +1,44 @@
+-- What is done and what is left give the xor, by xor-again.
+use borrow.Author.Needs.{needs}
+use Rattle.octets.proofs.LoopLaws.{xor-none, xor-again, xor-done}
+use Prim.Native.Nat.{_+_, _-_, _≤_}
+use mathlib.Core.Path.{_≡_, refl}
+use native.Mathlib.Omega.{arith}
+use mathlib.Core.List.{_++_}
+use lib.ListN.{length, take, drop, length-set}
+use Rattle.octets.specs.Octets.{xors}
 use Rattle.octets.proofs.xor32.Statement.{statement}
 use Rattle.octets.proofs.xor32.Tie as tie
-use Rattle.octets.proofs.xor32.Reads as reads
-use Rattle.octets.proofs.xor32.Lts as lts
 
 abbrev Inv-loop : tie.InvT-loop
-Inv-loop b r₀ i₀ r i = ?
+Inv-loop b r₀ i₀ r i = (i ≤ 32) × (length r ≡ 32) × (length b ≡ 32) × (take i r ++ xors (drop i r) (drop i b) ≡ xors r₀ b)
 
 abbrev μ-loop : tie.MeasureT-loop
-μ-loop b r₀ i₀ r i = ?
+μ-loop b r₀ i₀ r i = 32 - i
 
--- src/lib.rt:163:5
 loop-holds : tie.Need-loop-holds Inv-loop μ-loop
-loop-holds c = ?
+loop-holds c = (search needs, search needs, search needs, xor-none _ _)
 
--- src/lib.rt:164:16
 array-read-r : tie.Need-array-read-r Inv-loop μ-loop
-array-read-r c = ?
+array-read-r c = search needs
 
--- src/lib.rt:164:23
 array-read-r-2 : tie.Need-array-read-r-2 Inv-loop μ-loop
-array-read-r-2 c = ?
+array-read-r-2 c = search needs
 
--- src/lib.rt:164:9
 array-write-r : tie.Need-array-write-r Inv-loop μ-loop
-array-write-r c = ?
+array-write-r c = search needs
 
--- src/lib.rt:165:9
 add-i : tie.Need-add-i Inv-loop μ-loop
-add-i c = ?
+add-i c = search needs
 
--- src/lib.rt:163:5
 loop-less : tie.Need-loop-less Inv-loop μ-loop
-loop-less c = ?
+loop-less c = search needs
 
--- src/lib.rt:163:5
 loop-again : tie.Need-loop-again Inv-loop μ-loop
-loop-again c = ?
+loop-again c = (search needs, simp length-set (omega arith), search needs, xor-again (c .before .loop .r) _ _ (c .before .loop .i) (search needs) (search needs) (c .before .loop .inv .3))
 
--- src/lib.rt:158:1
 returns : tie.Need-returns Inv-loop μ-loop
-returns c = ?
+returns c = xor-done (c .before .loop .r) _ _ (c .before .loop .i) (search needs) (c .before .loop .inv .3)
 
 pub xor32-spec : {M : Type 1} → statement M
 xor32-spec =
