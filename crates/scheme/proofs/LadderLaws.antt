@@ -2,7 +2,7 @@
 --   rung, passed, passed-all   a ladder gives 0 exactly where every test holds, its codes being at least 1
 --   first-append               a ladder in two parts
 --   first-stage                a part of a ladder that is read first
---   Fine, fine-rung, fine-end  a ladder that never gives code 7
+--   Fine, fine-rung, fine-pass, fine-end   a ladder that never gives code 7
 --   both, pair, within-true, in-range, either   what a test's parts say
 use Prim.Native.Nat.{ℕ, zero, suc, _%_, _≤_}
 use native.Mathlib.Omega.{arith}
@@ -71,6 +71,10 @@ fine-rung r rest h g = go (r .0)
     go : (b : Bool) → Fine (cond b (first 0 rest) (r .1))
     go true = g
     go false = h
+
+pub fine-pass : (r : Bool × ℕ) (rest : List (Bool × ℕ)) → r .0 ≡ true → Fine (first 0 rest) → Fine (first 0 (r ∷ rest))
+unfolding first
+fine-pass r rest h g = rw h g
 
 pub fine-end : Fine (first 0 [])
 unfolding first

@@ -4,3 +4,9 @@ pub mod TokenLaws
 pub mod LadderLaws
 pub mod RecordLaws
 pub mod TableLaws
+pub mod JudgingLaws
+pub mod CallLaws
+pub mod BookLaws
+pub mod StepLaws
+pub mod ListTheorem
+pub mod Corollaries

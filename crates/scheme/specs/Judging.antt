@@ -3,11 +3,13 @@
 --   cause                the first cause that holds of a reply
 --   verdict              0 where there is none, else 11
 --   wellFormed           the reply's own fields fit the card
+--   Accepted             the rule by which a reply is accepted
 use Prim.Native.Nat.{ℕ}
 use mathlib.Core.List.{List, [], _∷_}
 use mathlib.Core.Bool.{Bool, true, false, cond, _&&_}
 use mathlib.Core.Option.{Option, none, some}
-use lib.ListN.{length, drop}
+use mathlib.Core.Path.{_≡_}
+use lib.ListN.{length, getD, drop}
 use lib.Dec.{eqb}
 use Rattle.octets.specs.Octets.{ofBe, part, same}
 use Rattle.scheme.specs.Lists.{first}
@@ -64,3 +66,17 @@ module _ (P : Primitives) where
 
   unfoldable pub verdict : List ℕ → Card → List ℕ → ℕ
   verdict master c reply = verdictOf (cause master c reply)
+
+  -- "Accepted (0) exactly when it has 110 bytes, its length, version, id and i fit the card (i is the card's open), its record has length 61,
+  -- version 1, the card's ctr and that i, the tag holds, and the opened token equals the digest"
+  pub record Accepted (master : List ℕ) (c : Card) (reply : List ℕ) : Type 0 where
+    pub size : length reply ≡ 110
+    pub ownLength : ofBe (part 0 2 reply) ≡ 108
+    pub ownVersion : getD reply 2 0 ≡ 1
+    pub ownId : part 3 8 reply ≡ c .id
+    pub ownI : ofBe (part 11 4 reply) ≡ c .open′
+    pub recordLength : ofBe (part 0 2 (drop 47 reply)) ≡ 61
+    pub recordVersion : getD (drop 47 reply) 2 0 ≡ 1
+    pub recordCtr : ofBe (part 3 8 (drop 47 reply)) ≡ c .ctr
+    pub recordI : ofBe (part 11 4 (drop 47 reply)) ≡ c .open′
+    pub opens : bodyIn P (keyK P master (c .id)) (c .ctr) (c .open′) (drop 47 reply) ≡ some (part 15 32 reply)
