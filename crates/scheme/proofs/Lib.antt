@@ -10,3 +10,5 @@ pub mod BookLaws
 pub mod StepLaws
 pub mod ListTheorem
 pub mod Corollaries
+pub mod Marked
+pub mod Computed
