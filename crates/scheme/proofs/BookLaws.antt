@@ -7,23 +7,20 @@
 use Prim.Native.Nat.{ℕ, zero, suc, _+_, _*_, _-_, _≤_, _<_}
 use native.Mathlib.Omega.{arith}
 use mathlib.Core.Path.{_≡_, refl, sym, ap, ap₂, _∙_}
-use mathlib.Core.List.{List, [], _∷_, _++_, append-assoc}
-use mathlib.Core.Option.{Option, none, some}
-use mathlib.Core.Bool.{Bool, true, false, cond, _||_}
-use borrow.Author.Tests.{eqb-true, ne-eqb}
+use mathlib.Core.List.{List, _++_, append-assoc}
+use mathlib.Core.Option.{some}
 use lib.ListN.{length, take, drop, length-append, length-drop}
 use lib.Seq.{take-at, drop-at, take-append-le, drop-append-le}
-use lib.Dec.{eqb}
 use Rattle.octets.specs.Octets.{put}
 use Rattle.scheme.specs.Lists.{joined, recordsFrom}
 use Rattle.scheme.specs.Primitives.{Primitives}
-use Rattle.scheme.specs.Records.{Card, cardBytes, readCard, recordAt}
+use Rattle.scheme.specs.Records.{cardBytes, readCard, recordAt}
 use Rattle.scheme.specs.Tokens.{Change, keyK, drawKey, hashKey, digest, token, changedDigest}
-use Rattle.scheme.specs.Table.{there, value, sealedRecord, bodyIn, tokenIn, firstBad, resealedRecord, reseal}
+use Rattle.scheme.specs.Table.{tokenIn, firstBad, resealedRecord, reseal}
 use Rattle.scheme.specs.Calls.{unusedBad}
 use Rattle.scheme.specs.Book.{Book, bookCard, withBlocks, freshToken, freshRecord, bookTable}
 use Rattle.scheme.proofs.TokenLaws.{length-digest}
-use Rattle.scheme.proofs.LadderLaws.{either}
+use Rattle.scheme.proofs.LimitLaws.{Limits, open-last, open-most}
 use Rattle.scheme.proofs.RecordLaws.{CardSmall, card-back, token-back, record-long, record-at}
 use Rattle.scheme.proofs.TableLaws.{Sized, length-records}
 
@@ -38,38 +35,26 @@ module _ (P : Primitives) where
   pub record Good (b : Book) : Type 0 where
     pub key32 : length (b .key) ≡ 32
     pub id8 : length (b .id) ≡ 8
-    pub B1 : 1 ≤ b .B
-    pub B4096 : b .B ≤ 4096
-    pub d1 : 1 ≤ b .d
-    pub dmost : b .d ≤ 1048576
-    pub r1 : 1 ≤ b .r
-    pub rd : b .r ≤ b .d
-    pub r512 : b .r ≤ 512
-    pub t1 : 1 ≤ b .t
-    pub tmost : b .t ≤ 65536
-    pub nd : b .d ≤ length (b .blocks)
-    pub nmost : length (b .blocks) ≤ 16777216
-    pub ctrmost : b .ctr ≤ 4294967295
-    pub next1 : 1 ≤ b .next
-    pub nextmost : b .next ≤ b .t + 1
-    pub asked : (eqb (b .open′) 0 || eqb (b .open′) (b .next - 1)) ≡ true
-    pub openmost : b .open′ ≤ 65536
+    pub limits : Limits (b .B) (b .d) (b .r) (b .t) (length (b .blocks)) (b .ctr) (b .next) (b .open′)
     pub sized : Sized (b .B) (b .blocks)
     pub spent63 : length (joined (b .spent)) ≡ (b .next - 1) * 63
     pub shown : 1 ≤ b .open′ → recordAt (b .open′) (joined (b .spent)) ≡ freshRecord P b (b .open′)
+
+  pub open-small : (b : Book) → Good b → b .open′ ≤ 65536
+  open-small b g = open-most (b .B) (b .d) (b .r) (b .t) (length (b .blocks)) (b .ctr) (b .next) (b .open′) (g .limits)
 
   pub small : (b : Book) → Good b → CardSmall (bookCard b)
   unfolding bookCard
   small b g = record {
     id8 = g .id8;
-    B2 = omega (arith, g .B4096);
-    d4 = omega (arith, g .dmost);
-    r2 = omega (arith, g .r512);
-    t4 = omega (arith, g .tmost);
-    n4 = omega (arith, g .nmost);
-    ctr8 = omega (arith, g .ctrmost);
-    next4 = omega (arith, g .tmost, g .nextmost);
-    open4 = omega (arith, g .openmost);
+    B2 = omega (arith, g .limits .shape .Bmost);
+    d4 = omega (arith, g .limits .shape .dmost);
+    r2 = omega (arith, g .limits .shape .rmost);
+    t4 = omega (arith, g .limits .tmost);
+    n4 = omega (arith, g .limits .nmost);
+    ctr8 = omega (arith, g .limits .ctrmost);
+    next4 = omega (arith, g .limits .tmost, g .limits .nextmost);
+    open4 = omega (arith, open-small b g);
   }
 
   pub back : (b : Book) → Good b → readCard (cardBytes (bookCard b)) ≡ bookCard b
@@ -121,8 +106,8 @@ module _ (P : Primitives) where
     pub sound : unusedBad P (b .key) (bookCard b) (bookTable P b) ≡ 0
     unfolding unusedBad bookCard
     sound =
-        none-bad b (bookTable P b) (b .t + 1 - b .next) (b .next) (joined (b .spent)) (g .next1)
-        (omega (arith, g .tmost, g .nextmost, g .next1)) (g .ctrmost) (g .spent63) table-plain
+        none-bad b (bookTable P b) (b .t + 1 - b .next) (b .next) (joined (b .spent)) (g .limits .next1)
+        (omega (arith, g .limits .tmost, g .limits .nextmost, g .limits .next1)) (g .limits .ctrmost) (g .spent63) table-plain
 
     pub table-long : length (bookTable P b) ≡ b .t * 63
     unfolding bookTable
@@ -132,8 +117,8 @@ module _ (P : Primitives) where
           length-append (joined (b .spent)) (recordsFrom (freshRecord P b) (b .t + 1 - b .next) (b .next)),
           length-records (freshRecord P b) (fresh-long b) (b .t + 1 - b .next) (b .next),
           g .spent63,
-          g .nextmost,
-          g .next1,
+          g .limits .nextmost,
+          g .limits .next1,
         )
 
     -- the first fresh record apart
@@ -150,17 +135,11 @@ module _ (P : Primitives) where
         ∙ record-at (b .next) (joined (b .spent)) (freshRecord P b (b .next)) (recordsFrom (freshRecord P b) (b .t + 1 - (b .next + 1)) (b .next + 1)) (g .spent63) (fresh-long b (b .next))
 
     module _ (opn : 1 ≤ b .open′) where
-      -- the open token is the last one drawn
-      is-last : b .open′ ≡ b .next - 1
-      is-last =
-          let f : eqb (b .open′) 0 ≡ false = ne-eqb (b .open′) 0 (λ z. omega arith) in
-          eqb-true (b .open′) (b .next - 1) (either (eqb (b .open′) 0) (eqb (b .open′) (b .next - 1)) (g .asked) f)
-
       -- the table holds its fresh record
       pub table-open : recordAt (b .open′) (bookTable P b) ≡ freshRecord P b (b .open′)
       unfolding recordAt bookTable
       table-open =
-          let l : length (joined (b .spent)) ≡ b .open′ * 63 = g .spent63 ∙ ap (λ (y : ℕ). y * 63) (sym is-last) in
+          let l : length (joined (b .spent)) ≡ b .open′ * 63 = g .spent63 ∙ ap (λ (y : ℕ). y * 63) (sym (open-last (b .B) (b .d) (b .r) (b .t) (length (b .blocks)) (b .ctr) (b .next) (b .open′) (g .limits) opn)) in
           let a : (b .open′ - 1) * 63 ≤ length (joined (b .spent)) = omega arith in
           let rest = recordsFrom (freshRecord P b) (b .t + 1 - b .next) (b .next) in
           ap (take 63) (drop-append-le ((b .open′ - 1) * 63) (joined (b .spent)) rest a)
@@ -200,6 +179,6 @@ module _ (P : Primitives) where
     pub table-changed : Good b
         → reseal P (b .key) (bookCard b) block ch (b .t + 1 - b .next) (b .next) (bookTable P b) ≡ bookTable P (withBlocks b blocks)
     table-changed g =
-        all-resealed (bookTable P b) (b .t + 1 - b .next) (b .next) (joined (b .spent)) (g .next1)
-        (omega (arith, g .tmost, g .nextmost, g .next1)) (g .spent63) (table-plain b g)
+        all-resealed (bookTable P b) (b .t + 1 - b .next) (b .next) (joined (b .spent)) (g .limits .next1)
+        (omega (arith, g .limits .tmost, g .limits .nextmost, g .limits .next1)) (g .spent63) (table-plain b g)
         ∙ changed-plain

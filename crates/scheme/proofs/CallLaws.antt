@@ -3,38 +3,33 @@
 --   Changed, change-has       those of an accepted change
 --   draw-has                  an accepted draw: nothing is open, and a token is left
 --   lent-long                 an accepted call was lent a master of 32 bytes
-use Prim.Native.Nat.{ℕ, zero, suc, _+_, _*_, _-_, _≤_, _<_, min}
+use Prim.Native.Nat.{ℕ, _*_, _≤_, _<_}
 use native.Mathlib.Omega.{arith}
-use mathlib.Core.Path.{_≡_, refl}
-use mathlib.Core.List.{List, [], _∷_}
-use mathlib.Core.Bool.{Bool, true, false, _&&_}
+use mathlib.Core.Path.{_≡_}
+use mathlib.Core.List.{List}
+use mathlib.Core.Bool.{true, _&&_}
 use borrow.Author.Tests.{eqb-true, leb-true, ltb-true}
 use lib.ListN.{length}
 use lib.Dec.{eqb, leb, ltb}
-use Rattle.scheme.specs.Lists.{first, within}
 use Rattle.scheme.specs.Primitives.{Primitives}
 use Rattle.scheme.specs.Records.{Card, readCard, shapeFits, tokenFits, cardFits, headFits}
-use Rattle.scheme.specs.Calls.{Edit, update, delete, append, handedFits, placeRung, setUpCode, unusedBad, changeCode, drawCode, judgeFault}
+use Rattle.scheme.specs.Calls.{Edit, update, delete, append, handedFits, placeRung, setUpCode, changeCode, drawCode, judgeFault}
 use Rattle.scheme.specs.Book.{Call, change, draw, judge, turnedAway}
 use Rattle.scheme.proofs.LadderLaws.{rung, both, within-true}
+use Rattle.scheme.proofs.LimitLaws.{Shape, shape-limits}
 
-pub record SetUp (master id : List ℕ) (B d r t : ℕ) (blocks card table : List ℕ) : Type 0 where
+pub record SetUp (master id : List ℕ) (B d r t : ℕ) (blocks : List ℕ) : Type 0 where
   pub key32 : length master ≡ 32
   pub id8 : length id ≡ 8
-  pub B1 : 1 ≤ B
-  pub B4096 : B ≤ 4096
-  pub d1 : 1 ≤ d
-  pub dmost : d ≤ 1048576
-  pub r1 : 1 ≤ r
-  pub rmost : r ≤ min d 512
+  pub shape : Shape B d r
   pub t1 : 1 ≤ t
   pub tmost : t ≤ 65536
   pub blocks-long : length blocks ≡ d * B
 
 module _ (P : Primitives) where
   pub set-up-has : (master id : List ℕ) (B d r t : ℕ) (blocks card table : List ℕ) → setUpCode P master id B d r t blocks card table ≡ 0
-      → SetUp master id B d r t blocks card table
-  unfolding setUpCode shapeFits tokenFits
+      → SetUp master id B d r t blocks
+  unfolding setUpCode tokenFits
   set-up-has master id B d r t blocks card table h =
       let p₁ = rung (eqb (length master) 32 && eqb (length id) 8 && eqb (length card) 43, 1) _ (omega arith) h in
       let p₂ = rung (shapeFits B d r && tokenFits t, 3) _ (omega arith) (p₁ .1) in
@@ -42,25 +37,15 @@ module _ (P : Primitives) where
       let q₁ = both (eqb (length master) 32 && eqb (length id) 8) (eqb (length card) 43) (p₁ .0) in
       let q₂ = both (eqb (length master) 32) (eqb (length id) 8) (q₁ .0) in
       let q₃ = both (shapeFits B d r) (tokenFits t) (p₂ .0) in
-      let q₄ = both (within 1 4096 B && within 1 1048576 d) (within 1 (min d 512) r) (q₃ .0) in
-      let q₅ = both (within 1 4096 B) (within 1 1048576 d) (q₄ .0) in
-      let q₆ = both (eqb (length blocks) (d * B)) (eqb (length table) (t * 63)) (p₃ .0) in
-      let wB = within-true 1 4096 B (q₅ .0) in
-      let wd = within-true 1 1048576 d (q₅ .1) in
-      let wr = within-true 1 (min d 512) r (q₄ .1) in
+      let q₄ = both (eqb (length blocks) (d * B)) (eqb (length table) (t * 63)) (p₃ .0) in
       let wt = within-true 1 65536 t (q₃ .1) in
       record {
         key32 = eqb-true (length master) 32 (q₂ .0);
         id8 = eqb-true (length id) 8 (q₂ .1);
-        B1 = wB .0;
-        B4096 = wB .1;
-        d1 = wd .0;
-        dmost = wd .1;
-        r1 = wr .0;
-        rmost = wr .1;
+        shape = shape-limits B d r (q₃ .0);
         t1 = wt .0;
         tmost = wt .1;
-        blocks-long = eqb-true (length blocks) (d * B) (q₆ .0);
+        blocks-long = eqb-true (length blocks) (d * B) (q₄ .0);
       }
 
 pub record Changed (master : List ℕ) (c : Card) (edit : Edit) : Type 0 where

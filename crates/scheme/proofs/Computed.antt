@@ -4,22 +4,23 @@
 --   in-order       pairs of faults in the order of "Turned away"
 --   causes         each cause of a rejected reply, and pairs of causes in their order
 --   week           a list of calls: its numbers and the card it leaves
-use Prim.Native.Nat.{ℕ, zero, suc, _+_, _*_, _-_, _%_}
+use Prim.Native.Nat.{ℕ, _+_, _*_, _-_, _%_}
 use native.Mathlib.Omega.{arith}
 use mathlib.Core.Path.{_≡_, refl, ap, _∙_}
 use mathlib.Core.List.{List, [], _∷_, _++_}
-use mathlib.Core.Option.{Option, none, some}
-use mathlib.Core.Bool.{true, cond}
-use lib.ListN.{length, take, drop, set, replicate, length-append}
+use mathlib.Core.Option.{none, some}
+use mathlib.Core.Bool.{cond}
+use lib.ListN.{take, drop, set, replicate, length-append}
 use lib.Seq.{take-at, drop-at}
 use Rattle.octets.specs.Octets.{le, be, ofLe, ofBe, put, same, xors}
 use Rattle.octets.proofs.SameLaws.{same-refl}
-use Rattle.scheme.specs.Lists.{first, joined, pieces, recordsFrom, xorBelow}
+use Rattle.scheme.specs.Ladder.{first}
+use Rattle.scheme.specs.Lists.{joined, pieces, recordsFrom, xorBelow}
 use Rattle.scheme.specs.Primitives.{Primitives}
-use Rattle.scheme.specs.Records.{Card, cardBytes, readCard, shapeFits, tokenFits, blocksFit, cardFits, headFits, clearBytes, nonceBytes, recordAt, messageBytes, readMessage, messageFits, replyBytes}
-use Rattle.scheme.specs.Tokens.{rowOf, columnOf, blockIn, columnsOf, blockAt, indexOf, keyW, keyZ, keyK, drawKey, hashKey, blockHash, drawnRow, positionOf, rowDigest, digest, token, mixed, changedDigest}
+use Rattle.scheme.specs.Records.{cardBytes, readCard, shapeFits, tokenFits, blocksFit, cardFits, headFits, clearBytes, nonceBytes, recordAt, messageBytes, readMessage, messageFits, replyBytes}
+use Rattle.scheme.specs.Tokens.{rowOf, columnOf, blockIn, columnsOf, blockAt, indexOf, keyW, keyZ, keyK, drawKey, hashKey, blockHash, columnHash, drawnRow, positionOf, rowDigest, digest, token, mixed, changedDigest}
 use Rattle.scheme.specs.Table.{sealedRecord, bodyIn, tokenIn, firstBad, resealedRecord, reseal}
-use Rattle.scheme.specs.Judging.{Cause, causeNumber, verdictOf, cause, verdict}
+use Rattle.scheme.specs.Judging.{causeNumber, verdictOf, cause, verdict}
 use Rattle.scheme.specs.Calls.{update, delete, append, changedCard, turnedCard, setUpCode, setUpCard, setUpTable, unusedBad, changeCode, changeCard, changeTable, updateCode, deleteCode, appendCode, drawCode, drawCard, messageFor, drawMessage, judgeFault, judgeCode, judgeCard, proveCode, proveReply}
 use Rattle.scheme.specs.Book.{Call, change, draw, judge, Lent, Ran, run}
 
@@ -94,7 +95,7 @@ pub small-inputs : (updateCode standIn key (replicate 42 0) (tableOf 0) 1 (5 ∷
     × (deleteCode standIn key (cardOf 1 2 0 1 0) (tableOf 0) 2 (6 ∷ []) ≡ 0)
     × (appendCode standIn key (cardOf 1 2 0 1 0) (tableOf 0) (9 ∷ []) ≡ 0)
     × (updateCode standIn key (cardOf 1 2 0 3 0) (bothFlipped 0) 1 (5 ∷ []) (9 ∷ []) ≡ 0)
-unfolding be le ofBe ofLe same xors first xorBelow recordsFrom cardBytes readCard shapeFits tokenFits blocksFit cardFits headFits clearBytes nonceBytes recordAt columnsOf blockIn blockAt indexOf keyW keyZ keyK drawKey hashKey blockHash drawnRow rowDigest digest token sealedRecord bodyIn tokenIn firstBad unusedBad setUpCode changeCode drawCode judgeFault judgeCode
+unfolding be le ofBe ofLe same xors first xorBelow recordsFrom cardBytes readCard shapeFits tokenFits blocksFit cardFits headFits clearBytes nonceBytes recordAt columnsOf blockIn blockAt indexOf keyW keyZ keyK drawKey hashKey blockHash columnHash drawnRow rowDigest digest token sealedRecord bodyIn tokenIn firstBad unusedBad setUpCode changeCode drawCode judgeFault judgeCode
 small-inputs = (refl, refl, refl, refl, refl, refl, refl, refl, refl, refl, refl, refl, refl, refl, refl, refl)
 
 -- "Order: 1 for buffers of fixed size, 2, 3, 1 for sizes that follow from fields, then 8 or 9, 6, 4, 5, 10, 7"
@@ -124,7 +125,7 @@ pub in-order : (updateCode standIn [] (second (cardOf 1 2 0 1 0)) (tableOf 0) 1 
     × (proveCode standIn (set drawn 22 3) [] [] (replicate 110 0) ≡ 3)
     × (proveCode standIn drawn (5 ∷ 6 ∷ []) (replicate 62 0) (replicate 110 0) ≡ 1)
     × (proveCode standIn drawn (5 ∷ 6 ∷ []) (replicate 63 0) (replicate 110 0) ≡ 0)
-unfolding be le ofBe ofLe same xors first xorBelow recordsFrom cardBytes readCard shapeFits tokenFits blocksFit cardFits headFits clearBytes nonceBytes recordAt messageBytes readMessage messageFits columnsOf blockIn blockAt indexOf keyW keyZ keyK drawKey hashKey blockHash drawnRow rowDigest digest token sealedRecord bodyIn tokenIn firstBad unusedBad setUpCode changeCode drawCode messageFor drawMessage judgeFault judgeCode proveCode
+unfolding be le ofBe ofLe same xors first xorBelow recordsFrom cardBytes readCard shapeFits tokenFits blocksFit cardFits headFits clearBytes nonceBytes recordAt messageBytes readMessage messageFits columnsOf blockIn blockAt indexOf keyW keyZ keyK drawKey hashKey blockHash columnHash drawnRow rowDigest digest token sealedRecord bodyIn tokenIn firstBad unusedBad setUpCode changeCode drawCode messageFor drawMessage judgeFault judgeCode proveCode
 in-order = (refl, refl, refl, refl, refl, refl, refl, refl, refl, refl, refl, refl, refl, refl, refl, refl, refl, refl, refl, refl, refl, refl, refl, refl, refl, refl)
 
 -- the reply of a host that has the blocks, judged on the drawn card
@@ -142,7 +143,7 @@ pub causes : (judged right ≡ 0) × (judged [] ≡ 11) × (judged (set right 15
     × (why (set right 10 9) ≡ 3) × (why (set right 14 2) ≡ 3) × (why (set right 61 2) ≡ 3) × (why (set right 57 1) ≡ 4) × (why (set right 109 1) ≡ 5) × (why (set right 15 0) ≡ 6)
     × (why (0 ∷ set right 2 2) ≡ 1) × (why (set (set right 49 2) 10 9) ≡ 2) × (why (set (set right 61 2) 57 1) ≡ 3) × (why (set (set right 57 1) 109 1) ≡ 4)
     × (why (set (set right 109 1) 15 0) ≡ 5)
-unfolding be le ofBe ofLe same xors first pieces xorBelow recordsFrom cardBytes readCard shapeFits tokenFits blocksFit cardFits headFits clearBytes nonceBytes recordAt messageBytes readMessage messageFits replyBytes columnsOf blockIn blockAt indexOf keyW keyZ keyK drawKey hashKey blockHash drawnRow rowDigest digest token sealedRecord bodyIn causeNumber verdictOf cause verdict turnedCard drawCode drawCard messageFor drawMessage judgeFault judgeCode proveCode proveReply
+unfolding be le ofBe ofLe same xors first pieces xorBelow recordsFrom cardBytes readCard shapeFits tokenFits blocksFit cardFits headFits clearBytes nonceBytes recordAt messageBytes readMessage messageFits replyBytes columnsOf blockIn blockAt indexOf keyW keyZ keyK drawKey hashKey blockHash columnHash drawnRow rowDigest digest token sealedRecord bodyIn causeNumber verdictOf cause verdict turnedCard drawCode drawCard messageFor drawMessage judgeFault judgeCode proveCode proveReply
 causes = (refl, refl, refl, refl, refl, refl, refl, refl, refl, refl, refl, refl, refl, refl, refl, refl, refl, refl, refl, refl, refl)
 
 -- lent the key
@@ -163,5 +164,5 @@ pub week : _≡_ {A = Ran} (run standIn
       card = 0 ∷ 41 ∷ 1 ∷ 1 ∷ 2 ∷ 3 ∷ 4 ∷ 5 ∷ 6 ∷ 7 ∷ 8 ∷ 0 ∷ 1 ∷ 0 ∷ 0 ∷ 0 ∷ 2 ∷ 0 ∷ 1 ∷ 0 ∷ 0 ∷ 0 ∷ 1 ∷ 0 ∷ 0 ∷ 0 ∷ 4 ∷ 0 ∷ 0 ∷ 0 ∷ 0 ∷ 0 ∷ 0 ∷ 0 ∷ 4 ∷ 0 ∷ 0 ∷ 0 ∷ 2 ∷ 0 ∷ 0 ∷ 0 ∷ 0 ∷ [];
       table = sealedRecord standIn (keyK standIn key id) 3 1 (token standIn key id 2 1 1 ((9 ∷ []) ∷ (6 ∷ []) ∷ (0 ∷ []) ∷ []));
     })
-unfolding run be le ofBe ofLe put same xors first joined pieces xorBelow recordsFrom cardBytes readCard shapeFits tokenFits blocksFit cardFits headFits clearBytes nonceBytes recordAt rowOf columnOf blockIn columnsOf blockAt indexOf keyW keyZ keyK drawKey hashKey blockHash drawnRow positionOf rowDigest digest token mixed changedDigest sealedRecord bodyIn tokenIn firstBad resealedRecord reseal causeNumber verdictOf cause verdict changedCard turnedCard setUpCode setUpCard setUpTable unusedBad changeCode changeCard changeTable drawCode drawCard judgeFault judgeCode judgeCard
+unfolding run be le ofBe ofLe put same xors first joined pieces xorBelow recordsFrom cardBytes readCard shapeFits tokenFits blocksFit cardFits headFits clearBytes nonceBytes recordAt rowOf columnOf blockIn columnsOf blockAt indexOf keyW keyZ keyK drawKey hashKey blockHash columnHash drawnRow positionOf rowDigest digest token mixed changedDigest sealedRecord bodyIn tokenIn firstBad resealedRecord reseal causeNumber verdictOf cause verdict changedCard turnedCard setUpCode setUpCard setUpTable unusedBad changeCode changeCard changeTable drawCode drawCard judgeFault judgeCode judgeCard
 week = refl

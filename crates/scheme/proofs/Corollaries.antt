@@ -1,50 +1,39 @@
 -- After the list theorem: judge accepts exactly the fresh token, and the host's proof is accepted. Assumes nothing.
 --   judge-exactly    a well-formed reply that carries the open token's record from the table is accepted exactly when its digest is the fresh token
 --   host-accepted    the reply that prove writes from the drawn message, the current blocks and the table left is accepted on the drawn card
-use Prim.Native.Nat.{ℕ, zero, suc, _+_, _*_, _-_, _≤_, _<_, min}
+use Prim.Native.Nat.{ℕ, _+_, _*_, _≤_}
 use native.Mathlib.Omega.{arith}
 use mathlib.Core.Path.{_≡_, refl, sym, ap, ap₂, _∙_}
 use mathlib.Core.Logic.{_↔_}
 use mathlib.Core.List.{List, [], _∷_, _++_}
-use mathlib.Core.Option.{Option, none, some}
-use mathlib.Core.Bool.{Bool, true, false, cond, _&&_}
+use mathlib.Core.Option.{some}
+use mathlib.Core.Bool.{true, _&&_}
 use borrow.Author.Tests.{eqb-true, eq-eqb, le-leb, lt-ltb}
 use lib.ListN.{length, getD, drop}
 use lib.Dec.{eqb, leb, ltb}
 use Rattle.octets.specs.Octets.{ofBe, part, same}
 use Rattle.octets.proofs.SameLaws.{same-refl, same-true}
-use Rattle.scheme.specs.Lists.{first, ifZero, joined, pieces}
+use Rattle.scheme.specs.Lists.{joined}
 use Rattle.scheme.specs.Primitives.{Primitives}
-use Rattle.scheme.specs.Records.{Card, cardBytes, readCard, shapeFits, tokenFits, blocksFit, cardFits, headFits, recordAt, Message, messageBytes, readMessage, messageFits, replyBytes}
-use Rattle.scheme.specs.Tokens.{keyK, drawKey, hashKey, digest, token}
-use Rattle.scheme.specs.Table.{bodyIn, sealedRecord}
+use Rattle.scheme.specs.Records.{Card, cardBytes, readCard, tokenFits, blocksFit, cardFits, headFits, recordAt, messageBytes, messageFits, replyBytes}
+use Rattle.scheme.specs.Tokens.{keyK, drawKey, hashKey, token}
+use Rattle.scheme.specs.Table.{bodyIn}
 use Rattle.scheme.specs.Judging.{wellFormed, verdict, Accepted}
 use Rattle.scheme.specs.Calls.{setUpCode, setUpCard, setUpTable, drawCode, drawCard, messageFor, drawMessage, judgeFault, judgeCode, proveCode, proveReply}
-use Rattle.scheme.specs.Book.{draw, Lent, Ran, Book, started, bookCard, withTurn, run, freshToken, freshRecord, bookTable, bookFault, bookAfter, bookLast, Fits}
+use Rattle.scheme.specs.Book.{draw, Lent, Ran, Book, started, bookCard, withTurn, run, freshToken, freshRecord, bookTable, bookFault, bookAfter, bookLast, Honest}
 use Rattle.scheme.proofs.LadderLaws.{passed, passed-all, both, pair, in-range}
+use Rattle.scheme.proofs.LimitLaws.{limits-shape, limits-card}
 use Rattle.scheme.proofs.RecordLaws.{card-long, card-head, sealed-head, sealed-ctr, sealed-i, sealed-body, MessageSmall, message-back, message-long, message-head, reply-long, reply-head, reply-id, reply-i, reply-digest, reply-record}
 use Rattle.scheme.proofs.TableLaws.{joined-long, pieces-joined}
 use Rattle.scheme.proofs.JudgingLaws.{accepted-exactly}
-use Rattle.scheme.proofs.BookLaws.{Good, back, token-long, fresh-long, table-long, record-next, table-open}
+use Rattle.scheme.proofs.BookLaws.{Good, open-small, back, token-long, fresh-long, table-long, record-next, table-open}
 use Rattle.scheme.proofs.StepLaws.{step, drawn-left}
 use Rattle.scheme.proofs.ListTheorem.{last-good, last-key, start-good, theorem}
 
 module _ (P : Primitives) (b : Book) (g : Good P b) where
   -- a book's card is in order
-  shape-fits : shapeFits (b .B) (b .d) (b .r) ≡ true
-  unfolding shapeFits
-  shape-fits =
-      pair _ _ (pair _ _ (in-range 1 4096 (b .B) (g .B1) (g .B4096)) (in-range 1 1048576 (b .d) (g .d1) (g .dmost)))
-      (in-range 1 (min (b .d) 512) (b .r) (g .r1) (omega (arith, g .rd, g .r512)))
-
   card-fits : cardFits (bookCard b) ≡ true
-  unfolding cardFits tokenFits blocksFit bookCard
-  card-fits =
-      pair _ _ (pair _ _ (pair _ _ (pair _ _ (pair _ _ shape-fits (in-range 1 65536 (b .t) (g .t1) (g .tmost)))
-      (in-range (b .d) 16777216 (length (b .blocks)) (g .nd) (g .nmost)))
-      (le-leb (b .ctr) 4294967295 (g .ctrmost)))
-      (in-range 1 (b .t + 1) (b .next) (g .next1) (g .nextmost)))
-      (g .asked)
+  card-fits = limits-card (bookCard b) (unfold bookCard in g .limits)
 
   module _ (opn : 1 ≤ b .open′) where
     open-card : ltb 0 ((bookCard b) .open′) ≡ true
@@ -101,8 +90,8 @@ module _ (P : Primitives) (b : Book) (g : Good P b) where
             ownI = eqb-true (ofBe (part 11 4 reply)) (b .open′) (f₁ .1);
             recordLength = eqb-true (ofBe (part 0 2 rec)) 61 (hs .0);
             recordVersion = eqb-true (getD rec 2 0) 1 (hs .1);
-            recordCtr = ap (λ (u : List ℕ). ofBe (part 3 8 u)) fresh-record ∙ sealed-ctr P key (b .ctr) (b .open′) x (omega (arith, g .ctrmost));
-            recordI = ap (λ (u : List ℕ). ofBe (part 11 4 u)) fresh-record ∙ sealed-i P key (b .ctr) (b .open′) x (omega (arith, g .openmost));
+            recordCtr = ap (λ (u : List ℕ). ofBe (part 3 8 u)) fresh-record ∙ sealed-ctr P key (b .ctr) (b .open′) x (omega (arith, g .limits .ctrmost));
+            recordI = ap (λ (u : List ℕ). ofBe (part 11 4 u)) fresh-record ∙ sealed-i P key (b .ctr) (b .open′) x (omega (arith, open-small P b g));
             opens = fresh-body ∙ ap some (sym e);
           }
 
@@ -125,11 +114,11 @@ module _ (P : Primitives) (b : Book) (g : Good P b) (buffer : List ℕ) (ok : dr
   unfolding messageFor bookCard drawKey hashKey
   message-small = record {
     id8 = g .id8;
-    i4 = omega (arith, below, g .tmost);
-    B2 = omega (arith, g .B4096);
-    d4 = omega (arith, g .dmost);
-    r2 = omega (arith, g .r512);
-    n4 = omega (arith, g .nmost);
+    i4 = omega (arith, below, g .limits .tmost);
+    B2 = omega (arith, g .limits .shape .Bmost);
+    d4 = omega (arith, g .limits .shape .dmost);
+    r2 = omega (arith, g .limits .shape .rmost);
+    n4 = omega (arith, g .limits .nmost);
     k32 = P .hmac-long _ _;
     c32 = P .hmac-long _ _;
   }
@@ -137,8 +126,8 @@ module _ (P : Primitives) (b : Book) (g : Good P b) (buffer : List ℕ) (ok : dr
   message-fits : messageFits (messageFor P (b .key) (bookCard b)) ≡ true
   unfolding messageFits tokenFits blocksFit messageFor bookCard
   message-fits =
-      pair _ _ (pair _ _ (shape-fits P b g) (in-range 1 65536 (b .next) (g .next1) (omega (arith, below, g .tmost))))
-      (in-range (b .d) 16777216 (length (b .blocks)) (g .nd) (g .nmost))
+      pair _ _ (pair _ _ (limits-shape (b .B) (b .d) (b .r) (g .limits .shape)) (in-range 1 65536 (b .next) (g .limits .next1) (omega (arith, below, g .limits .tmost))))
+      (in-range (b .d) 16777216 (length (b .blocks)) (g .limits .nd) (g .limits .nmost))
 
   -- the book after the draw
   turned : Book
@@ -186,7 +175,7 @@ module _ (P : Primitives) (b : Book) (g : Good P b) (buffer : List ℕ) (ok : dr
       (eq-eqb (length reply) 110 (reply-long (b .id) (b .next) dg rec (g .id8) long (fresh-long P b (b .next))))
       (reply-head (b .id) (b .next) dg rec (g .id8) long))
       (rw (reply-id (b .id) (b .next) dg rec (g .id8) long) (same-refl (b .id))))
-      (eq-eqb (ofBe (part 11 4 reply)) (b .next) (reply-i (b .id) (b .next) dg rec (g .id8) long (omega (arith, below, g .tmost))))
+      (eq-eqb (ofBe (part 11 4 reply)) (b .next) (reply-i (b .id) (b .next) dg rec (g .id8) long (omega (arith, below, g .limits .tmost))))
 
   carried : drop 47 reply ≡ recordAt (turned .open′) (bookTable P turned)
   unfolding reply
@@ -203,7 +192,7 @@ module _ (P : Primitives) (b : Book) (g : Good P b) (buffer : List ℕ) (ok : dr
   reply-accepted : judgeCode P (b .key) (cardBytes (bookCard turned)) reply ≡ 0
   reply-accepted =
       ap (λ (y : List ℕ). judgeCode P y (cardBytes (bookCard turned)) reply) (sym turned-key)
-      ∙ judged P turned turned-good (omega (arith, turned-open, g .next1)) reply well-formed carried .1 digested
+      ∙ judged P turned turned-good (omega (arith, turned-open, g .limits .next1)) reply well-formed carried .1 digested
 
   module _ (space : List ℕ) (space110 : length space ≡ 110) where
     sizes-fit : eqb (length (joined (b .blocks))) ((messageFor P (b .key) (bookCard b)) .n * (messageFor P (b .key) (bookCard b)) .B)
@@ -233,9 +222,9 @@ module _ (P : Primitives) (b : Book) (g : Good P b) (buffer : List ℕ) (ok : dr
         (proveReply P (drawMessage P (b .key) (cardBytes (bookCard b)) buffer) (joined (b .blocks)) (bookTable P b) space) ≡ 0)
     hosted = (rw drawn-message proved, rw (drawn-message, turned-card, written) reply-accepted)
 
--- after an accepted set-up and a list that fits
+-- after an accepted set-up and an honest list
 module _ (P : Primitives) (master id : List ℕ) (B d r t : ℕ) (blocks card table : List ℕ) (ok : setUpCode P master id B d r t blocks card table ≡ 0)
-    (calls : List Lent) (fits : Fits P calls (started master id B d r t blocks)) where
+    (calls : List Lent) (honest : Honest P calls (started master id B d r t blocks)) where
   -- the run, and the book after it
   abbrev pub ran : Ran
   ran = run P calls (setUpCard P master id B d r t blocks card table) (setUpTable P master id B d r t blocks card table)
@@ -244,17 +233,17 @@ module _ (P : Primitives) (master id : List ℕ) (B d r t : ℕ) (blocks card ta
   book = bookLast P calls (started master id B d r t blocks)
 
   good : Good P book
-  good = last-good P calls (started master id B d r t blocks) (start-good P master id B d r t blocks card table ok) fits
+  good = last-good P calls (started master id B d r t blocks) (start-good P master id B d r t blocks card table ok) honest
 
   key : book .key ≡ master
   unfolding started
-  key = last-key P calls (started master id B d r t blocks) (start-good P master id B d r t blocks card table ok) fits
+  key = last-key P calls (started master id B d r t blocks) (start-good P master id B d r t blocks card table ok) honest
 
   card-left : ran .card ≡ cardBytes (bookCard book)
-  card-left = ap (λ (x : Ran). x .card) (theorem P master id B d r t blocks card table ok calls fits)
+  card-left = ap (λ (x : Ran). x .card) (theorem P master id B d r t blocks card table ok calls honest)
 
   table-left : ran .table ≡ bookTable P book
-  table-left = ap (λ (x : Ran). x .table) (theorem P master id B d r t blocks card table ok calls fits)
+  table-left = ap (λ (x : Ran). x .table) (theorem P master id B d r t blocks card table ok calls honest)
 
   pub judge-exactly : 1 ≤ book .open′ → (reply : List ℕ) → wellFormed (readCard (ran .card)) reply ≡ true → drop 47 reply ≡ recordAt (book .open′) (ran .table)
       → (judgeCode P master (ran .card) reply ≡ 0) ↔ (part 15 32 reply ≡ freshToken P book (book .open′))

@@ -2,11 +2,11 @@
 --   verdict-either       a verdict is 0 or 11
 --   verdict-none         it is 0 exactly where the cause has number 0
 --   accepted-exactly     it is 0 exactly where the reply is accepted by the rule
-use Prim.Native.Nat.{ℕ, zero, suc, _≤_}
+use Prim.Native.Nat.{ℕ, _≤_}
 use native.Mathlib.Omega.{arith}
-use mathlib.Core.Path.{_≡_, refl, sym, ap, _∙_}
+use mathlib.Core.Path.{_≡_, refl, ap}
 use mathlib.Core.Logic.{_↔_, _⊎_, inl, inr}
-use mathlib.Core.List.{List, [], _∷_}
+use mathlib.Core.List.{List, _∷_}
 use mathlib.Core.Option.{Option, none, some}
 use mathlib.Core.Bool.{Bool, true, false, cond, _&&_}
 use borrow.Author.Tests.{eq-eqb, eqb-true}
@@ -14,13 +14,13 @@ use lib.ListN.{length, getD, drop}
 use lib.Dec.{eqb}
 use Rattle.octets.specs.Octets.{ofBe, part, same}
 use Rattle.octets.proofs.SameLaws.{same-refl, same-true}
-use Rattle.scheme.specs.Lists.{first}
+use Rattle.scheme.specs.Ladder.{first}
 use Rattle.scheme.specs.Primitives.{Primitives}
 use Rattle.scheme.specs.Records.{Card, headFits}
 use Rattle.scheme.specs.Tokens.{keyK}
 use Rattle.scheme.specs.Table.{there, value, bodyIn}
 use Rattle.scheme.specs.Judging.{Cause, wrongSize, wrongHeader, otherToken, otherCounter, badTag, otherDigest, noCause, causeNumber, verdictOf, cause, verdict, Accepted}
-use Rattle.scheme.proofs.LadderLaws.{no-false, both, pair}
+use Rattle.scheme.proofs.LadderLaws.{no-false, both}
 
 -- a cause with a number is no acceptance
 pub rejected : (why : Cause) → 1 ≤ causeNumber why → verdictOf why ≡ 0 → ⊥

@@ -12,7 +12,7 @@ use mathlib.Core.List.{List, [], _∷_, _++_}
 use mathlib.Core.Bool.{Bool, true, false, cond, _&&_, _||_}
 use borrow.Author.Tests.{leb-true, le-leb}
 use lib.Dec.{leb}
-use Rattle.scheme.specs.Lists.{first, ifZero, within}
+use Rattle.scheme.specs.Ladder.{first, ifZero, within}
 
 pub no-false : {A : Type 0} → false ≡ true → A
 no-false p = absurd (let z : _≡_ {A = ℕ} 0 1 = cc in omega arith)

@@ -5,16 +5,16 @@
 --   keys                                               the keys W, Z, K, k and c
 --   row-two, token-two                                 a row's digest and a token
 --   numbers                                            the numbers of the causes
-use Prim.Native.Nat.{ℕ, _+_}
+use Prim.Native.Nat.{ℕ}
 use mathlib.Core.Path.{_≡_, refl}
 use mathlib.Core.List.{List, [], _∷_, _++_}
-use mathlib.Core.Bool.{true}
-use lib.ListN.{length, replicate}
+use lib.ListN.{replicate}
 use Rattle.octets.specs.Octets.{le, be, ofLe, ofBe, xors}
-use Rattle.scheme.specs.Lists.{first, xorBelow}
+use Rattle.scheme.specs.Ladder.{first}
+use Rattle.scheme.specs.Lists.{xorBelow}
 use Rattle.scheme.specs.Primitives.{Primitives}
-use Rattle.scheme.specs.Records.{Card, cardBytes, readCard, shapeFits, tokenFits, blocksFit, cardFits, headFits, clearBytes, nonceBytes, messageBytes, replyBytes}
-use Rattle.scheme.specs.Tokens.{rowOf, columnOf, blockIn, columnsOf, blockAt, indexOf, keyW, keyZ, keyK, drawKey, hashKey, blockHash, drawnRow, rowDigest, digest, token}
+use Rattle.scheme.specs.Records.{cardBytes, readCard, shapeFits, tokenFits, blocksFit, cardFits, headFits, clearBytes, nonceBytes, messageBytes, replyBytes}
+use Rattle.scheme.specs.Tokens.{rowOf, columnOf, blockIn, columnsOf, blockAt, indexOf, keyW, keyZ, keyK, drawKey, hashKey, blockHash, columnHash, drawnRow, rowDigest, digest, token}
 use Rattle.scheme.specs.Table.{sealedRecord}
 use Rattle.scheme.specs.Judging.{wrongSize, wrongHeader, otherToken, otherCounter, badTag, otherDigest, noCause, causeNumber, verdictOf}
 use Rattle.scheme.specs.Calls.{setUpCode, drawCode}
@@ -87,7 +87,7 @@ module _ (P : Primitives) where
     -- row 2 of 12 blocks at position 3: blocks 2, 7 and 12 with the indices 3, 8 and 13
     pub row-two : rowDigest P c 5 2 3 (b₁ ∷ b₂ ∷ b₃ ∷ b₄ ∷ b₅ ∷ b₆ ∷ b₇ ∷ b₈ ∷ b₉ ∷ b₁₀ ∷ b₁₁ ∷ b₁₂ ∷ [])
         ≡ xors (xors (xors (replicate 32 0) (P .hash (c ++ (0 ∷ 0 ∷ 0 ∷ 3 ∷ []) ++ b₂))) (P .hash (c ++ (0 ∷ 0 ∷ 0 ∷ 8 ∷ []) ++ b₇))) (P .hash (c ++ (0 ∷ 0 ∷ 0 ∷ 13 ∷ []) ++ b₁₂))
-    unfolding rowDigest xorBelow columnsOf blockHash indexOf blockIn blockAt be le
+    unfolding rowDigest columnHash xorBelow columnsOf blockHash indexOf blockIn blockAt be le
     row-two = refl
 
     -- d 2 and r 2 over three blocks, where P takes 0 to 1 and 1 to 0: position 1 draws row 2 (block 2, index 1), position 2 row 1 (blocks 1 and 3, indices 2 and 4)
@@ -96,7 +96,7 @@ module _ (P : Primitives) where
         ≡ xors (xors (replicate 32 0)
         (xors (replicate 32 0) (P .hash (hashKey P master id 1 ++ (0 ∷ 0 ∷ 0 ∷ 1 ∷ []) ++ b₂))))
         (xors (xors (replicate 32 0) (P .hash (hashKey P master id 1 ++ (0 ∷ 0 ∷ 0 ∷ 2 ∷ []) ++ b₁))) (P .hash (hashKey P master id 1 ++ (0 ∷ 0 ∷ 0 ∷ 4 ∷ []) ++ b₃)))
-    unfolding token digest drawnRow rowDigest xorBelow columnsOf blockHash indexOf blockIn blockAt be le
+    unfolding token digest drawnRow rowDigest columnHash xorBelow columnsOf blockHash indexOf blockIn blockAt be le
     token-two master id p q = rw (p, q)
 
 -- "the place, from 1, of the first that holds"; "Accepted (0)", "Otherwise verdict 11"

@@ -4,16 +4,15 @@
 --   token-back, record-long, record-at                    the same in one; its length; a record in a table
 --   MessageSmall, message-back, message-long, message-head   the message
 --   reply-long .. reply-record                            the parts of a reply
-use Prim.Native.Nat.{ℕ, zero, suc, _+_, _*_, _-_, _/_, _%_, _^_, _≤_, _<_}
+use Prim.Native.Nat.{ℕ, _*_, _-_, _<_}
 use native.Mathlib.Omega.{arith}
-use mathlib.Core.Path.{_≡_, refl, sym, ap, ap₂, _∙_}
+use mathlib.Core.Path.{_≡_, refl, ap, ap₂, _∙_}
 use mathlib.Core.List.{List, [], _∷_, _++_}
-use mathlib.Core.Option.{Option, none, some}
-use mathlib.Core.Bool.{Bool, true, false, cond, _&&_}
+use mathlib.Core.Option.{some}
+use mathlib.Core.Bool.{true}
 use borrow.Author.Tests.{eq-eqb}
-use lib.ListN.{length, getD, take, drop, length-append}
+use lib.ListN.{length, take, drop, length-append}
 use lib.Seq.{take-at, drop-at, take-all}
-use lib.Dec.{eqb}
 use Rattle.octets.specs.Octets.{le, be, ofLe, ofBe, part}
 use Rattle.octets.proofs.NumberLaws.{be-back}
 use Rattle.scheme.specs.Primitives.{Primitives}

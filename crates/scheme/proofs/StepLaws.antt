@@ -4,22 +4,24 @@
 use Prim.Native.Nat.{ℕ, zero, suc, _+_, _*_, _-_, _≤_, _<_}
 use native.Mathlib.Omega.{arith}
 use native.Mathlib.Decide.{ℕ-discrete}
-use mathlib.Core.Path.{_≡_, refl, sym, ap, ap₂, _∙_, subst}
+use mathlib.Core.Path.{_≡_, refl, sym, ap, _∙_, subst}
 use mathlib.Core.Logic.{_≢_}
 use mathlib.Core.List.{List, [], _∷_, _++_, append-assoc, append-nil}
-use mathlib.Core.Bool.{Bool, true, false, cond, _&&_, _||_, or-true}
+use mathlib.Core.Bool.{Bool, true, false, cond, _||_, or-true}
 use borrow.Author.Tests.{eqb-true, ltb-true, eq-eqb, ne-eqb}
 use lib.ListN.{length, set, replicate, length-append, length-set, length-replicate}
-use lib.Dec.{eqb, ltb}
-use Rattle.scheme.specs.Lists.{first, ifZero, within, joined, recordsFrom}
+use lib.Dec.{eqb}
+use Rattle.scheme.specs.Ladder.{first, ifZero, within}
+use Rattle.scheme.specs.Lists.{joined, recordsFrom}
 use Rattle.scheme.specs.Primitives.{Primitives}
 use Rattle.scheme.specs.Records.{Card, cardBytes, readCard, recordAt}
-use Rattle.scheme.specs.Tokens.{Change, replaced, added, digest, blockAt, changedDigest}
+use Rattle.scheme.specs.Tokens.{replaced, digest, blockAt, changedDigest}
 use Rattle.scheme.specs.Judging.{causeNumber, cause, verdictOf, verdict}
-use Rattle.scheme.specs.Calls.{Edit, update, delete, append, placeRung, placeOf, changeOf, blocksAfter, changedCard, turnedCard, unusedBad, changeCode, changeCard, changeTable, drawCode, drawCard, judgeFault, judgeCode, judgeCard}
+use Rattle.scheme.specs.Calls.{Edit, update, delete, append, placeRung, placeOf, changeOf, blocksAfter, changedCard, turnedCard, changeCode, changeCard, changeTable, drawCode, drawCard, judgeFault, judgeCode, judgeCard}
 use Rattle.scheme.specs.Book.{Call, change, draw, judge, Lent, Book, bookCard, withBlocks, withTurn, edited, callCode, callCard, callTable, turnedAway, freshToken, freshRecord, bookTable, bookFault, bookAnswer, bookAfter, Present}
 use Rattle.scheme.proofs.TokenLaws.{digest-replaced, digest-added}
 use Rattle.scheme.proofs.LadderLaws.{both, within-true, Fine, fine-rung, fine-pass, fine-end}
+use Rattle.scheme.proofs.LimitLaws.{Limits}
 use Rattle.scheme.proofs.RecordLaws.{record-at}
 use Rattle.scheme.proofs.TableLaws.{Sized, joined-append, records-same}
 use Rattle.scheme.proofs.CallLaws.{Changed, change-has, draw-has, lent-long}
@@ -59,7 +61,7 @@ module _ (P : Primitives) where
         let p = within-true 1 (length (b .blocks)) m w in (
           length-set (b .blocks) (m - 1) new,
           sized-set (b .B) (m - 1) (b .blocks) new l (g .sized),
-          λ k c. digest-replaced P k c (b .d) (b .r) (b .blocks) (g .d1) (g .dmost) (g .rd) m old new (p .0) (p .1) o,
+          λ k c. digest-replaced P k c (b .d) (b .r) (b .blocks) (g .limits .shape .d1) (g .limits .shape .dmost) (g .limits .shape .rd) m old new (p .0) (p .1) o,
         )
 
     edit-follows : (master : List ℕ) (edit : Edit) → Changed master (bookCard b) edit → Present P (change edit) b → Follows b edit
@@ -67,10 +69,10 @@ module _ (P : Primitives) where
     edit-follows master (update m old new) u o =
         let q = both (eqb (length old) (b .B)) (eqb (length new) (b .B)) (u .handed) in
         let s = put-follows m old new (u .placed) (eqb-true (length new) (b .B) (q .1)) o in
-        record { count = s .0; more = omega (arith, s .0); most = omega (arith, s .0, g .nmost); sized = s .1; follows = s .2 }
+        record { count = s .0; more = omega (arith, s .0); most = omega (arith, s .0, g .limits .nmost); sized = s .1; follows = s .2 }
     edit-follows master (delete m old) u o =
         let s = put-follows m old (replicate (b .B) 0) (u .placed) (length-replicate (b .B) 0) o in
-        record { count = s .0; more = omega (arith, s .0); most = omega (arith, s .0, g .nmost); sized = s .1; follows = s .2 }
+        record { count = s .0; more = omega (arith, s .0); most = omega (arith, s .0, g .limits .nmost); sized = s .1; follows = s .2 }
     edit-follows master (append new) u o =
         let l : length (b .blocks ++ new ∷ []) ≡ length (b .blocks) + 1 = length-append (b .blocks) (new ∷ []) in
         let room : length (b .blocks) < 16777216 = ltb-true (length (b .blocks)) 16777216 (u .placed) in
@@ -79,8 +81,21 @@ module _ (P : Primitives) where
           more = omega arith;
           most = omega arith;
           sized = sized-append (b .B) (b .blocks) new (eqb-true (length new) (b .B) (u .handed)) (g .sized);
-          follows = λ k c. digest-added P k c (b .d) (b .r) (b .blocks) (g .d1) (g .dmost) (g .rd) new;
+          follows = λ k c. digest-added P k c (b .d) (b .r) (b .blocks) (g .limits .shape .d1) (g .limits .shape .dmost) (g .limits .shape .rd) new;
         }
+
+    limits-changed : (n ctr : ℕ) → b .d ≤ n → n ≤ 16777216 → ctr ≤ 4294967295 → Limits (b .B) (b .d) (b .r) (b .t) n ctr (b .next) (b .open′)
+    limits-changed n ctr nd nmost ctrmost = record {
+      shape = g .limits .shape;
+      t1 = g .limits .t1;
+      tmost = g .limits .tmost;
+      nd = nd;
+      nmost = nmost;
+      ctrmost = ctrmost;
+      next1 = g .limits .next1;
+      nextmost = g .limits .nextmost;
+      last = g .limits .last;
+    }
 
     -- the book after a change
     module _ (blocks : List (List ℕ)) where
@@ -98,22 +113,7 @@ module _ (P : Primitives) where
       good-changed o room more most s = record {
         key32 = g .key32;
         id8 = g .id8;
-        B1 = g .B1;
-        B4096 = g .B4096;
-        d1 = g .d1;
-        dmost = g .dmost;
-        r1 = g .r1;
-        rd = g .rd;
-        r512 = g .r512;
-        t1 = g .t1;
-        tmost = g .tmost;
-        nd = omega (arith, g .nd);
-        nmost = most;
-        ctrmost = omega arith;
-        next1 = g .next1;
-        nextmost = g .nextmost;
-        asked = g .asked;
-        openmost = g .openmost;
+        limits = limits-changed (length blocks) (b .ctr + 1) (omega (arith, g .limits .nd)) most (omega arith);
         sized = s;
         spent63 = g .spent63;
         shown = λ h. absurd (omega arith);
@@ -137,30 +137,29 @@ module _ (P : Primitives) where
       unfolding bookTable withTurn
       table-turned = ap (λ (y : List ℕ). joined spent ++ y) (records-same (freshRecord P b) (freshRecord P (withTurn b next o spent)) record-turned (b .t + 1 - next) next)
 
-      good-turned : 1 ≤ next → next ≤ b .t + 1 → (eqb o 0 || eqb o (next - 1)) ≡ true → o ≤ 65536 → length (joined spent) ≡ (next - 1) * 63
+      limits-turned : 1 ≤ next → next ≤ b .t + 1 → (eqb o 0 || eqb o (next - 1)) ≡ true
+          → Limits (b .B) (b .d) (b .r) (b .t) (length (b .blocks)) (b .ctr) next o
+      limits-turned h₁ h₂ h₃ = record {
+        shape = g .limits .shape;
+        t1 = g .limits .t1;
+        tmost = g .limits .tmost;
+        nd = g .limits .nd;
+        nmost = g .limits .nmost;
+        ctrmost = g .limits .ctrmost;
+        next1 = h₁;
+        nextmost = h₂;
+        last = h₃;
+      }
+
+      good-turned : 1 ≤ next → next ≤ b .t + 1 → (eqb o 0 || eqb o (next - 1)) ≡ true → length (joined spent) ≡ (next - 1) * 63
           → (1 ≤ o → recordAt o (joined spent) ≡ freshRecord P b o) → Good P (withTurn b next o spent)
-      good-turned h₁ h₂ h₃ h₄ h₅ h₆ = record {
+      good-turned h₁ h₂ h₃ h₄ h₅ = record {
         key32 = unfold withTurn in g .key32;
         id8 = unfold withTurn in g .id8;
-        B1 = unfold withTurn in g .B1;
-        B4096 = unfold withTurn in g .B4096;
-        d1 = unfold withTurn in g .d1;
-        dmost = unfold withTurn in g .dmost;
-        r1 = unfold withTurn in g .r1;
-        rd = unfold withTurn in g .rd;
-        r512 = unfold withTurn in g .r512;
-        t1 = unfold withTurn in g .t1;
-        tmost = unfold withTurn in g .tmost;
-        nd = unfold withTurn in g .nd;
-        nmost = unfold withTurn in g .nmost;
-        ctrmost = unfold withTurn in g .ctrmost;
-        next1 = unfold withTurn in h₁;
-        nextmost = unfold withTurn in h₂;
-        asked = unfold withTurn in h₃;
-        openmost = unfold withTurn in h₄;
+        limits = unfold withTurn in limits-turned h₁ h₂ h₃;
         sized = unfold withTurn in g .sized;
-        spent63 = unfold withTurn in h₅;
-        shown = unfold withTurn freshRecord freshToken in h₆;
+        spent63 = unfold withTurn in h₄;
+        shown = unfold withTurn freshRecord freshToken in h₅;
       }
 
     card-drawn : (spent : List (List ℕ))
@@ -187,12 +186,12 @@ module _ (P : Primitives) where
         let x = freshRecord P b (b .next) in
         let s = b .spent ++ x ∷ [] in
         let more : joined s ≡ joined (b .spent) ++ x = joined-append (b .spent) x in
-        let long : length (joined s) ≡ (b .next + 1 - 1) * 63 = ap length more ∙ omega (arith, length-append (joined (b .spent)) x, fresh-long P b (b .next), g .spent63, g .next1) in
+        let long : length (joined s) ≡ (b .next + 1 - 1) * 63 = ap length more ∙ omega (arith, length-append (joined (b .spent)) x, fresh-long P b (b .next), g .spent63, g .limits .next1) in
         let last : recordAt (b .next) (joined s) ≡ x =
         ap (recordAt (b .next)) (more ∙ ap (λ (y : List ℕ). joined (b .spent) ++ y) (sym (append-nil x)))
         ∙ record-at (b .next) (joined (b .spent)) x [] (g .spent63) (fresh-long P b (b .next)) in
         let o : eqb (b .next) (b .next + 1 - 1) ≡ true = eq-eqb (b .next) (b .next + 1 - 1) (omega arith) in
-        good-turned (b .next + 1) (b .next) s (omega arith) (omega arith) (rw o (or-true (eqb (b .next) 0))) (omega (arith, g .tmost)) long (λ z. last)
+        good-turned (b .next + 1) (b .next) s (omega arith) (omega arith) (rw o (or-true (eqb (b .next) 0))) long (λ z. last)
 
     -- an accepted draw finds a token left
     pub drawn-left : (message : List ℕ) → drawCode P (b .key) (cardBytes (bookCard b)) message ≡ 0 → b .next ≤ b .t
@@ -239,7 +238,7 @@ module _ (P : Primitives) where
       card = rw (e, back P b g) card-judged;
       table = rw e (table-plain P b g ∙ sym (table-turned (b .next) 0 (b .spent)));
       same = rw e (key-turned (b .next) 0 (b .spent));
-      good = rw e (good-turned (b .next) 0 (b .spent) (g .next1) (g .nextmost) refl (omega arith) (g .spent63) (λ z. absurd (omega arith)));
+      good = rw e (good-turned (b .next) 0 (b .spent) (g .limits .next1) (g .limits .nextmost) refl (g .spent63) (λ z. absurd (omega arith)));
     }
 
     pub step : (x : Lent) → (length (x .master) ≡ 32 → x .master ≡ b .key) → (bookFault P x b ≡ 0 → Present P (x .call) b) → Stepped x b

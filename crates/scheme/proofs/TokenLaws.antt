@@ -1,9 +1,9 @@
 -- Laws of tokens: what a change of a block does to a token, and what loops over columns and positions hold. Assumes nothing.
---   length-hash, length-row, length-digest   32 bytes
+--   length-hash .. length-digest             32 bytes
 --   rowFrom                                  the columns of a row from one up: row-from-none, row-from-step, row-from-all
 --   digest-more                              one more position
 --   digest-replaced, digest-added            the digest after a block is replaced or added
-use Prim.Native.Nat.{ℕ, zero, suc, _+_, _*_, _-_, _/_, _%_, _≤_, _<_}
+use Prim.Native.Nat.{ℕ, suc, _+_, _*_, _-_, _/_, _%_, _≤_, _<_}
 use native.Mathlib.Omega.{arith}
 use native.Mathlib.Nat.{div-add-mod', mod-lt}
 use mathlib.Core.Path.{_≡_, refl, sym, ap, ap₂, _∙_}
@@ -18,7 +18,7 @@ use Rattle.octets.specs.Octets.{xors}
 use Rattle.octets.proofs.XorLaws.{xors-comm, xors-assoc, xors-undo}
 use Rattle.scheme.specs.Lists.{xorBelow}
 use Rattle.scheme.specs.Primitives.{Primitives}
-use Rattle.scheme.specs.Tokens.{rowOf, columnOf, blockIn, columnsOf, blockAt, indexOf, Change, replaced, added, blockHash, drawnRow, positionOf, rowDigest, digest, mixed, changedDigest}
+use Rattle.scheme.specs.Tokens.{rowOf, columnOf, blockIn, columnsOf, blockAt, indexOf, replaced, added, blockHash, columnHash, drawnRow, positionOf, rowDigest, digest, mixed, changedDigest}
 use Rattle.scheme.proofs.SumLaws.{xorFrom, length-xor-below, xor-below-more, xor-below-same, xor-below-change, xor-from-none, xor-from-step, xor-from-all}
 use Rattle.scheme.proofs.GeometryLaws.{in-column, in-blocks, more-here, more-there, only-row, only-column}
 
@@ -26,18 +26,18 @@ one-back : (a : ℕ) → a + 1 - 1 ≡ a
 one-back a = omega arith
 
 module _ (P : Primitives) where
-  -- the hash of the block in column q of row ρ, at position j
-  abbrev columnHash : List ℕ → ℕ → ℕ → ℕ → List (List ℕ) → ℕ → List ℕ
-  columnHash c d ρ j blocks q = blockHash P c (indexOf d q j) (blockAt (blockIn d ρ q) blocks)
-
   -- 32 bytes
   pub length-hash : (c : List ℕ) (index : ℕ) (block : List ℕ) → length (blockHash P c index block) ≡ 32
   unfolding blockHash
   length-hash c index block = P .hash-long _
 
+  pub length-column : (c : List ℕ) (d ρ j : ℕ) (blocks : List (List ℕ)) (q : ℕ) → length (columnHash P c d ρ j blocks q) ≡ 32
+  unfolding columnHash
+  length-column c d ρ j blocks q = length-hash c _ _
+
   pub length-row : (c : List ℕ) (d ρ j : ℕ) (blocks : List (List ℕ)) → length (rowDigest P c d ρ j blocks) ≡ 32
   unfolding rowDigest
-  length-row c d ρ j blocks = length-xor-below (columnHash c d ρ j blocks) (λ q. length-hash c _ _) (columnsOf d (length blocks) ρ)
+  length-row c d ρ j blocks = length-xor-below (columnHash P c d ρ j blocks) (length-column c d ρ j blocks) (columnsOf d (length blocks) ρ)
 
   pub length-digest : (k c : List ℕ) (d r : ℕ) (blocks : List (List ℕ)) → length (digest P k c d r blocks) ≡ 32
   unfolding digest
@@ -45,24 +45,24 @@ module _ (P : Primitives) where
 
   -- the columns of a row from q up
   unfoldable pub rowFrom : List ℕ → ℕ → ℕ → ℕ → List (List ℕ) → ℕ → List ℕ
-  rowFrom c d ρ j blocks q = xorFrom (columnsOf d (length blocks) ρ - q) q (columnHash c d ρ j blocks)
+  rowFrom c d ρ j blocks q = xorFrom (columnsOf d (length blocks) ρ - q) q (columnHash P c d ρ j blocks)
 
   module _ (c : List ℕ) (d ρ j : ℕ) (blocks : List (List ℕ)) where
     pub row-from-none : rowFrom c d ρ j blocks (columnsOf d (length blocks) ρ) ≡ replicate 32 0
     unfolding rowFrom
-    row-from-none = xor-from-none (columnHash c d ρ j blocks) (columnsOf d (length blocks) ρ) (columnsOf d (length blocks) ρ) (omega arith)
+    row-from-none = xor-from-none (columnHash P c d ρ j blocks) (columnsOf d (length blocks) ρ) (columnsOf d (length blocks) ρ) (omega arith)
 
     -- from q up it is that from q + 1 up with column q's hash
     pub row-from-step : (q : ℕ) → q < columnsOf d (length blocks) ρ
-        → rowFrom c d ρ j blocks q ≡ xors (rowFrom c d ρ j blocks (q + 1)) (blockHash P c (indexOf d q j) (blockAt (blockIn d ρ q) blocks))
+        → rowFrom c d ρ j blocks q ≡ xors (rowFrom c d ρ j blocks (q + 1)) (columnHash P c d ρ j blocks q)
     unfolding rowFrom
-    row-from-step q h = xor-from-step (columnHash c d ρ j blocks) (columnsOf d (length blocks) ρ) q h
+    row-from-step q h = xor-from-step (columnHash P c d ρ j blocks) (columnsOf d (length blocks) ρ) q h
 
     pub row-from-all : rowFrom c d ρ j blocks 0 ≡ rowDigest P c d ρ j blocks
     unfolding rowFrom rowDigest
     row-from-all =
         let z : columnsOf d (length blocks) ρ - 0 ≡ columnsOf d (length blocks) ρ = omega arith in
-        rw z (xor-from-all (columnHash c d ρ j blocks) (λ q. length-hash c _ _) (columnsOf d (length blocks) ρ))
+        rw z (xor-from-all (columnHash P c d ρ j blocks) (length-column c d ρ j blocks) (columnsOf d (length blocks) ρ))
 
   -- one more position
   pub digest-more : (k c : List ℕ) (d r : ℕ) (blocks : List (List ℕ))
@@ -75,7 +75,7 @@ module _ (P : Primitives) where
   rowSum c d n a j blocks = xorBelow (columnsOf d n (a + 1)) (λ q. blockHash P c (indexOf d q j) (getD blocks (q * d + a) []))
 
   row-sum : (c : List ℕ) (d n a j : ℕ) (blocks : List (List ℕ)) → length blocks ≡ n → rowDigest P c d (a + 1) j blocks ≡ rowSum c d n a j blocks
-  unfolding rowDigest blockAt blockIn
+  unfolding rowDigest columnHash blockAt blockIn
   row-sum c d n a j blocks e =
       rw e (xor-below-same (λ q. blockHash P c (indexOf d q j) (getD blocks (q * d + a) [])) _ (columnsOf d n (a + 1))
       (λ q l. let z : q * d + (a + 1) - 1 ≡ q * d + a = omega arith in rw z))

@@ -4,12 +4,13 @@
 --   Book, started, bookCard, bookTable   the book, its start, its card and its table
 --   bookAnswer, bookAfter                what the book answers to a call, and the book after it
 --   bookNumbers, bookLast                the same for a list
---   Fits                                 what is asked of a list
-use Prim.Native.Nat.{ℕ, zero, suc, _+_, _-_}
+--   Honest                                 what is asked of a list
+use Prim.Native.Nat.{ℕ, _+_, _-_}
 use mathlib.Core.List.{List, [], _∷_, _++_}
 use mathlib.Core.Path.{_≡_}
 use lib.ListN.{length, set, replicate}
-use Rattle.scheme.specs.Lists.{ifZero, joined, pieces, recordsFrom}
+use Rattle.scheme.specs.Ladder.{ifZero}
+use Rattle.scheme.specs.Lists.{joined, pieces, recordsFrom}
 use Rattle.scheme.specs.Primitives.{Primitives}
 use Rattle.scheme.specs.Records.{Card, cardBytes}
 use Rattle.scheme.specs.Tokens.{keyK, token, blockAt}
@@ -203,7 +204,7 @@ module _ (P : Primitives) where
   Present (judge reply) b = Unit {0}
 
   -- what is asked of a list: a master of 32 bytes is the set-up's, and a change that the book accepts hands over present bytes
-  abbrev pub Fits : List Lent → Book → Type 0
-  Fits [] b = Unit {0}
-  Fits (x ∷ xs) b =
-      (length (x .master) ≡ 32 → x .master ≡ b .key) × (bookFault x b ≡ 0 → Present (x .call) b) × Fits xs (bookAfter x b)
+  abbrev pub Honest : List Lent → Book → Type 0
+  Honest [] b = Unit {0}
+  Honest (x ∷ xs) b =
+      (length (x .master) ≡ 32 → x .master ≡ b .key) × (bookFault x b ≡ 0 → Present (x .call) b) × Honest xs (bookAfter x b)

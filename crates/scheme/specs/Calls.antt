@@ -8,11 +8,12 @@
 --   judgeFault, judgeCode, judgeCard
 --   proveCode, proveReply
 use Prim.Native.Nat.{ℕ, _+_, _*_, _-_}
-use mathlib.Core.List.{List, [], _∷_, _++_}
-use mathlib.Core.Bool.{Bool, true, false, _&&_}
+use mathlib.Core.List.{List, [], _∷_}
+use mathlib.Core.Bool.{Bool, _&&_}
 use lib.ListN.{length, replicate}
 use lib.Dec.{eqb, leb, ltb}
-use Rattle.scheme.specs.Lists.{first, ifZero, within, pieces, recordsFrom}
+use Rattle.scheme.specs.Ladder.{first, ifZero, within}
+use Rattle.scheme.specs.Lists.{pieces, recordsFrom}
 use Rattle.scheme.specs.Primitives.{Primitives}
 use Rattle.scheme.specs.Records.{Card, cardBytes, readCard, shapeFits, tokenFits, cardFits, headFits, recordAt, Message, messageBytes, readMessage, messageFits, replyBytes}
 use Rattle.scheme.specs.Tokens.{Change, replaced, added, keyK, drawKey, hashKey, digest, token}

@@ -1,13 +1,14 @@
 -- Paper 01, "Keys, rows and tokens": geometry, keys, tokens, and what a change does to a token. Assumes nothing.
 --   rowOf, columnOf, blockIn, columnsOf, blockAt, indexOf   where a block lies, what a row has, what a hash is indexed by
 --   keyW, keyZ, keyK, drawKey, hashKey                      the keys W, Z, K, k and c
---   blockHash, rowDigest, digest, token                     the hash of a block, of a row at a position, of all positions
+--   blockHash, columnHash                                   the hash of a block, and of the block in a column of a row
+--   rowDigest, digest, token                                the xor over a row at a position, over all positions, under a token's keys
 --   drawnRow, positionOf                                    the row that a position draws, the position that draws a row
 --   Change, mixed, changedDigest                            a block replaced or added, and the digest after it
 -- A block's content is any list of bytes.
-use Prim.Native.Nat.{ℕ, zero, suc, _+_, _*_, _-_, _/_, _%_}
+use Prim.Native.Nat.{ℕ, _+_, _*_, _-_, _/_, _%_}
 use mathlib.Core.List.{List, [], _∷_, _++_}
-use mathlib.Core.Bool.{Bool, true, false, cond}
+use mathlib.Core.Bool.{cond}
 use lib.ListN.{length, getD}
 use lib.Dec.{leb}
 use Rattle.octets.specs.Octets.{be, xors}
@@ -74,10 +75,13 @@ module _ (P : Primitives) where
   unfoldable pub positionOf : List ℕ → ℕ → ℕ → ℕ
   positionOf k d ρ = P .unperm k d (ρ - 1) + 1
 
+  -- the hash, at position j, of the block in row ρ and column q
+  unfoldable pub columnHash : List ℕ → ℕ → ℕ → ℕ → List (List ℕ) → ℕ → List ℕ
+  columnHash c d ρ j blocks q = blockHash c (indexOf d q j) (blockAt (blockIn d ρ q) blocks)
+
   -- "the xor, over .. every block of the row drawn": row ρ at position j
   unfoldable pub rowDigest : List ℕ → ℕ → ℕ → ℕ → List (List ℕ) → List ℕ
-  rowDigest c d ρ j blocks =
-      xorBelow (columnsOf d (length blocks) ρ) (λ q. blockHash c (indexOf d q j) (blockAt (blockIn d ρ q) blocks))
+  rowDigest c d ρ j blocks = xorBelow (columnsOf d (length blocks) ρ) (columnHash c d ρ j blocks)
 
   -- "the xor, over every j": the digest under k and c, which the host sends too
   unfoldable pub digest : List ℕ → List ℕ → ℕ → ℕ → List (List ℕ) → List ℕ
