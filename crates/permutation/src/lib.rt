@@ -110,11 +110,11 @@ pub fn backward(key: [u32; 8], d: u64, x: u64) -> Walk
     ensures { λ r. ⌜ (r .value ≡ P.backward key d x) × (r .turns ≡ P.backwardTurns key d x) × (r .value < d) × (1 ≤ r .turns) × (r .turns ≤ 4 ^ R.half d - d + 1) ⌝ }
 {
     let h = half_width(d);
-    let mut v = unrounds(key, h, x);
+    let mut u = unrounds(key, h, x);
     let mut t: u64 = 1;
-    while d <= v {
-        v = unrounds(key, h, v);
+    while d <= u {
+        u = unrounds(key, h, u);
         t += 1;
     }
-    Walk { value: v, turns: t }
+    Walk { value: u, turns: t }
 }

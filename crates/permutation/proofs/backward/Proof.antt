@@ -1,4 +1,4 @@
--- `permutation::backward` meets its contract. The loop's invariant: the walk from x is at v after t turns, and was outside before (`Going`).
+-- `permutation::backward` meets its contract. The loop's invariant: the walk from x is at u after t turns, and was outside before (`Going`).
 -- The measure falls since a walk is outside for at most 4 ^ h - d turns (`few`).
 use mathlib.Core.Path.{_≡_, _∙_}
 use Prim.Native.Nat.{_+_, _-_, _^_, _≤_}
@@ -13,10 +13,10 @@ use Rattle.permutation.proofs.backward.Statement.{statement}
 use Rattle.permutation.proofs.backward.Tie as tie
 
 abbrev Inv-loop : tie.InvT-loop
-Inv-loop key d x h v₀ t₀ v t = Going (uneight key d) d x v t
+Inv-loop key d x h u₀ t₀ u t = Going (uneight key d) d x u t
 
 abbrev μ-loop : tie.MeasureT-loop
-μ-loop key d x h v₀ t₀ v t = 4 ^ half d - d + 1 - t
+μ-loop key d x h u₀ t₀ u t = 4 ^ half d - d + 1 - t
 
 width : (c : tie.After-half-width Inv-loop μ-loop) → c .half-width .result ≤ 10
 width c = omega (arith, c .half-width .ensures, half-le (c .before .args .d) (c .before .pre .0))
@@ -60,7 +60,7 @@ loop-again c =
     let k = c .before .before .before .before in
     let a = k .before .args in
     let l = c .before .before .loop in
-    onward (l .inv) (c .before .loop-test .taken) (c .unrounds2 .ensures ∙ uneight-at (a .key) (a .d) (l .v) (k .half-width .ensures))
+    onward (l .inv) (c .before .loop-test .taken) (c .unrounds2 .ensures ∙ uneight-at (a .key) (a .d) (l .u) (k .half-width .ensures))
 
 returns : tie.Need-returns Inv-loop μ-loop
 unfolding backward backwardTurns
