@@ -14,7 +14,6 @@ use lib.ListN.{length}
 use lib.Pow.{pow-pos}
 use Rattle.permutation.specs.Distinct.{Distinct, Between, total}
 use Rattle.permutation.specs.Rounds.{half, rounds, unrounds}
-use Rattle.permutation.specs.Walk.{turns, walked}
 use Rattle.permutation.specs.Permutation.{roundFunction, eight, uneight, forward, forwardTurns, backward, backwardTurns}
 use Rattle.permutation.proofs.WalkLaws.{Undone, Walks, homes, returned}
 use Rattle.permutation.proofs.TotalTurns.{total-le}

@@ -2,9 +2,9 @@
 --   started, onward      begin it and keep it
 --   within, few          in it v is below n, and t is at most n - d while v is outside
 --   answered             where v is below d, v and t are the definition's end and turns
-use mathlib.Core.Path.{_≡_, refl, sym, ap, _∙_, subst}
+use mathlib.Core.Path.{_≡_, sym, ap, _∙_, subst}
 use mathlib.Core.Logic.{_⊎_, inl, inr}
-use Prim.Native.Nat.{ℕ, zero, suc, _+_, _-_, _≤_, _<_}
+use Prim.Native.Nat.{ℕ, _+_, _-_, _≤_, _<_}
 use native.Mathlib.Omega.{arith}
 use native.Mathlib.Nat.{eq-or-lt-of-le}
 use native.Mathlib.Numerals.{add-one}
@@ -37,8 +37,8 @@ pub within : {g k : ℕ → ℕ} {n d x v t : ℕ} → Undone g k n → d ≤ n 
 within {n = n} {x = x} {t = t} U hd hx w = subst (λ (y : ℕ). y < n) (w .here) (iter-below U t x (omega arith))
 
 pub answered : {g k : ℕ → ℕ} {n d x v t : ℕ} → Undone g k n → d ≤ n → x < d → Going g d x v t → v < d
-    → (v ≡ walked g d (n - d) x) × (t ≡ turns g d (n - d) x) × (v < d) × (1 ≤ t) × (t ≤ n - d + 1)
+    → ((v ≡ walked g d (n - d) x) × (t ≡ turns g d (n - d) x)) × ((v < d) × (1 ≤ t) × (t ≤ n - d + 1))
 answered {g} {k} {n} {d} {x} {v} {t} U hd hx w h =
     let found = homes U d x hd hx in
     let same = unique (record { going = w; home = h }) (found .0) in
-    (same .1, same .0, h, w .some, omega (arith, same .0, found .1))
+    ((same .1, same .0), (h, w .some, omega (arith, same .0, found .1)))

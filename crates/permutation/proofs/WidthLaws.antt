@@ -4,14 +4,14 @@
 --   half-values                   paper 01's marked values of h
 --   half-wide                     the numbers below d fit two halves: d ≤ 4 ^ half d
 --   half-le, whole-le             d up to 2 ^ 20: h is at most 10, and 4 ^ h at most 2 ^ 20
-use mathlib.Core.Path.{_≡_, refl, sym, ap, _∙_, subst}
-use Prim.Native.Nat.{ℕ, zero, suc, _+_, _-_, _*_, _/_, _^_, _≤_, _<_, max}
+use mathlib.Core.Path.{_≡_, refl, sym, _∙_, subst}
+use Prim.Native.Nat.{ℕ, zero, suc, _+_, _-_, _*_, _^_, _≤_, _<_}
 use native.Mathlib.Omega.{arith}
 use native.Mathlib.Nat.{pow-suc, pow-le-pow-right}
 use native.Mathlib.Decide.{decLt}
 use lib.Pow.{pow-mono, pow-add}
-use lib.Dec.{lit<, lit≤}
-use lib.Count.{leadingZeros, leading-length, leading-unique, leading-le}
+use lib.Dec.{lit<}
+use lib.Count.{leadingZeros, leading-length, leading-unique}
 use Rattle.permutation.specs.Rounds.{bitLength, half}
 use Rattle.permutation.proofs.RoundLaws.{square}
 

@@ -1,4 +1,5 @@
--- Permutation P of 0..d-1 under a key's words (paper 01, functions underneath, 4), for every d.
+-- Permutation P of 0..d-1 (paper 01, functions underneath, 4). A key is the list of words that ChaCha20's block takes: the paper's
+-- 32-byte key k goes in as `keyWords k`. Assumes nothing.
 --   roundFunction key h q r                         F of round q, at the low half r
 --   eight key d x, uneight key d x                  the eight rounds, and the eight rounds undone
 --   forward key d x, backward key d x               P, and backward P

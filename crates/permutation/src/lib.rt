@@ -92,7 +92,8 @@ fn unrounds(key: [u32; 8], h: u32, x: u64) -> u64
 // P of x, which is below d, and the turns that it took.
 pub fn forward(key: [u32; 8], d: u64, x: u64) -> Walk
     requires { ⌜ (d ≤ 1048576) × (x < d) ⌝ }
-    ensures { λ r. ⌜ (r .value ≡ P.forward key d x) × (r .turns ≡ P.forwardTurns key d x) × (r .value < d) × (1 ≤ r .turns) × (r .turns ≤ 4 ^ R.half d - d + 1) ⌝ }
+    ensures { λ r. ⌜ (r .value ≡ P.forward key d x) × (r .turns ≡ P.forwardTurns key d x) ⌝ }
+    ensures { λ r. ⌜ (r .value < d) × (1 ≤ r .turns) × (r .turns ≤ 4 ^ R.half d - d + 1) ⌝ }
 {
     let h = half_width(d);
     let mut v = rounds(key, h, x);
@@ -107,7 +108,8 @@ pub fn forward(key: [u32; 8], d: u64, x: u64) -> Walk
 // Backward P of x, which is below d, and the turns that it took.
 pub fn backward(key: [u32; 8], d: u64, x: u64) -> Walk
     requires { ⌜ (d ≤ 1048576) × (x < d) ⌝ }
-    ensures { λ r. ⌜ (r .value ≡ P.backward key d x) × (r .turns ≡ P.backwardTurns key d x) × (r .value < d) × (1 ≤ r .turns) × (r .turns ≤ 4 ^ R.half d - d + 1) ⌝ }
+    ensures { λ r. ⌜ (r .value ≡ P.backward key d x) × (r .turns ≡ P.backwardTurns key d x) ⌝ }
+    ensures { λ r. ⌜ (r .value < d) × (1 ≤ r .turns) × (r .turns ≤ 4 ^ R.half d - d + 1) ⌝ }
 {
     let h = half_width(d);
     let mut u = unrounds(key, h, x);

@@ -1,6 +1,6 @@
 -- `permutation::backward` meets its contract. The loop's invariant: the walk from x is at u after t turns, and was outside before (`Going`).
 -- The measure falls since a walk is outside for at most 4 ^ h - d turns (`few`).
-use mathlib.Core.Path.{_≡_, _∙_}
+use mathlib.Core.Path.{_∙_}
 use Prim.Native.Nat.{_+_, _-_, _^_, _≤_}
 use native.Mathlib.Omega.{arith}
 use Rattle.permutation.specs.Rounds.{half}
@@ -27,7 +27,7 @@ turns-few : (c : tie.In-loop Inv-loop μ-loop)
 turns-few c =
     let s = c .before .before .before .before in
     let a = s .args in
-    few (redone (a .key) (half (a .d))) (half-wide (a .d)) (s .pre .1) (c .before .loop .inv) (c .loop-test .taken)
+    few (redone (a .key) (half (a .d))) (half-wide (a .d)) (s .pre .1) (c .before .loop .inv) (omega arith)
 
 half-width-requires : tie.Need-half-width-requires Inv-loop μ-loop
 half-width-requires c κs = omega arith
@@ -60,14 +60,14 @@ loop-again c =
     let k = c .before .before .before .before in
     let a = k .before .args in
     let l = c .before .before .loop in
-    onward (l .inv) (c .before .loop-test .taken) (c .unrounds2 .ensures ∙ uneight-at (a .key) (a .d) (l .u) (k .half-width .ensures))
+    onward (l .inv) (omega arith) (c .unrounds2 .ensures ∙ uneight-at (a .key) (a .d) (l .u) (k .half-width .ensures))
 
 returns : tie.Need-returns Inv-loop μ-loop
 unfolding backward backwardTurns
 returns c =
     let s = c .before .before .before .before in
     let a = s .args in
-    answered (redone (a .key) (half (a .d))) (half-wide (a .d)) (s .pre .1) (c .before .loop .inv) (c .loop-test .left)
+    answered (redone (a .key) (half (a .d))) (half-wide (a .d)) (s .pre .1) (c .before .loop .inv) (omega arith)
 
 pub backward-spec : {M : Type 1} → statement M
 backward-spec =

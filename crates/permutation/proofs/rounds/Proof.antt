@@ -2,11 +2,10 @@
 use mathlib.Core.Path.{_≡_, ap, _∙_}
 use Prim.Native.Nat.{ℕ, _-_, _≤_}
 use native.Mathlib.Omega.{arith}
-use native.Mathlib.Numerals.{add-one}
 use borrow.Author.Needs.{needs}
-use Rattle.permutation.specs.Rounds.{round, rounds}
+use Rattle.permutation.specs.Rounds.{rounds}
 use Rattle.permutation.specs.Permutation.{roundFunction}
-use Rattle.permutation.proofs.RoundLaws.{rounds-lt}
+use Rattle.permutation.proofs.RoundLaws.{rounds-lt, rounds-more}
 use Rattle.permutation.proofs.PermutationLaws.{within}
 use Rattle.permutation.proofs.rounds.Statement.{statement}
 use Rattle.permutation.proofs.rounds.Tie as tie
@@ -35,11 +34,10 @@ loop-less : tie.Need-loop-less Inv-loop μ-loop
 loop-less c = omega arith
 
 loop-again : tie.Need-loop-again Inv-loop μ-loop
-unfolding rounds
 loop-again c =
     let a = c .before .before .before .args in
     let l = c .before .before .loop in
-    (omega arith, rw (add-one (l .q)) (c .round .ensures ∙ ap (round (roundFunction (a .key) (a .h)) (a .h) (l .q)) (l .inv .1)))
+    (omega arith, rounds-more (roundFunction (a .key) (a .h)) (a .h) (l .q) (a .x) (l .v) _ (l .inv .1) (c .round .ensures))
 
 returns : tie.Need-returns Inv-loop μ-loop
 returns c =
