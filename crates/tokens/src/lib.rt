@@ -21,8 +21,8 @@ pub fn columns_of(rows: u64, blocks: u64, row: Row) -> u64
 pub fn index_of(rows: u64, column: u64, j: Position) -> u64
     ensures { λ r. ⌜ r ≡ T.indexOf rows column (j .0) ⌝ }
 
-// The keys of a file that a call prepares once: W and Z prepared, and the words of K.
-pub struct Keys { pub w: hmac::Key, pub z: hmac::Key, pub k: [u32; 8] }
+// The keys of a file that a call prepares once: W and Z prepared, and the 32 bytes of K.
+pub struct Keys { pub w: hmac::Key, pub z: hmac::Key, pub k: [u8; 32] }
 pub fn keys(master: &[u8], id: [u8; 8]) -> Keys
     requires { ⌜ length (now master) ≡ 32 ⌝ }
     ensures { λ r. ⌜ Keyed (now (master .entry)) id r ⌝ }
