@@ -1,0 +1,139 @@
+-- Laws of token records in a table. Assumes nothing.
+--   part-part                        a part of a part
+--   put-over                         a part put over another at the same place
+--   record-part                      a part of record i, as a part of the table
+--   fits-is, opens-is, opens-not     what the checks of a record say of the token in it
+--   token-is                         the token of a record that opens, deciphered
+--   sealed-is                        the clear bytes, the token and the seal put in place one after the other
+use Prim.Native.Nat.{ℕ, zero, suc, _+_, _*_, _-_, _≤_, _<_}
+use native.Mathlib.Omega.{arith}
+use mathlib.Core.Path.{_≡_, refl, sym, ap, ap₂, _∙_}
+use mathlib.Core.Bool.{Bool, true, false, cond, _&&_}
+use mathlib.Core.List.{List, [], _∷_, _++_}
+use mathlib.Core.Option.{Option, none, some}
+use lib.ListN.{length, getD, take, drop, length-append, length-drop}
+use native.Mathlib.Nat.{suc-add, add-zero}
+use lib.Seq.{take-take, take-all, take-at, drop-at, drop-drop, drop-append-add, length-take-le}
+use lib.Dec.{eqb}
+use Rattle.octets.specs.Octets.{le, be, ofBe, part, put}
+use Rattle.octets.proofs.PartLaws.{length-part, part-add, part-put, length-put, put-put}
+use Rattle.chacha20.specs.ChaCha20.{cipher, keyWords}
+use Rattle.aead.specs.Aead.{opens, opened, seal}
+use Rattle.aead.proofs.Sealing.{opened-part, length-seal-32}
+use Rattle.scheme.specs.Records.{headFits, clearBytes, nonceBytes, recordAt}
+use Rattle.scheme.specs.Table.{there, value, sealedRecord, bodyIn, tokenIn}
+use Rattle.scheme.proofs.LadderLaws.{no-false}
+use Rattle.standard.specs.Standard.{standard}
+
+inner : (b j k : ℕ) (l : List ℕ) → b + j ≤ k → take j (drop b (take k l)) ≡ take j (drop b l)
+inner zero j k l h = take-take j k l (omega arith)
+inner (suc b) j zero l h = absurd (omega (arith, suc-add b j))
+inner (suc b) j (suc k) [] h = refl
+inner (suc b) j (suc k) (x ∷ l) h = inner b j k l (omega (arith, suc-add b j))
+
+pub part-part : (b j a k : ℕ) (xs : List ℕ) → b + j ≤ k → part b j (part a k xs) ≡ part (a + b) j xs
+part-part b j a k xs h = inner b j k (drop a xs) h ∙ ap (take j) (drop-drop b a xs)
+
+pub put-over : (at : ℕ) (ys zs xs : List ℕ) → at + length zs ≤ length xs → length ys ≤ length zs → put at zs (put at ys xs) ≡ put at zs xs
+unfolding put
+put-over at ys zs xs h g =
+    let f : at + length ys ≤ length xs = omega arith in
+    let la : length (take at xs) ≡ at = length-take-le at xs (omega arith) in
+    let d : drop at (put at ys xs) ≡ ys ++ drop (length ys) (drop at xs) = drop-at (take at xs) (ys ++ drop (length ys) (drop at xs)) at la in
+    let r : length ys + (length zs - length ys) ≡ length zs = omega arith in
+    ap₂ (λ (u v : List ℕ). u ++ (zs ++ drop (length zs) v)) (take-at (take at xs) (ys ++ drop (length ys) (drop at xs)) at la) d
+    ∙ ap (λ (v : List ℕ). take at xs ++ (zs ++ v))
+    (ap (λ (n : ℕ). drop n (ys ++ drop (length ys) (drop at xs))) (sym r)
+    ∙ drop-append-add ys (drop (length ys) (drop at xs)) (length zs - length ys)
+    ∙ drop-drop (length zs - length ys) (length ys) (drop at xs)
+    ∙ ap (λ (n : ℕ). drop n (drop at xs)) r)
+
+-- record i of a table begins at (i - 1) * 63
+module _ (i : ℕ) (table : List ℕ) where
+  pub record-part : (b j : ℕ) → b + j ≤ 63 → part b j (recordAt i table) ≡ part ((i - 1) * 63 + b) j table
+  unfolding recordAt
+  record-part b j h = part-part b j ((i - 1) * 63) 63 table h
+
+  module _ (inside : (i - 1) * 63 + 63 ≤ length table) where
+    record-clear : take 15 (recordAt i table) ≡ part ((i - 1) * 63) 15 table
+    record-clear = record-part 0 15 (omega arith) ∙ ap (λ (n : ℕ). part n 15 table) (add-zero ((i - 1) * 63))
+
+    record-body : drop 15 (recordAt i table) ≡ part ((i - 1) * 63 + 15) 48 table
+    unfolding recordAt
+    record-body =
+        sym (take-all 48 (drop 15 (recordAt i table)) (omega (arith, length-drop 15 (recordAt i table), length-part ((i - 1) * 63) 63 table inside)))
+        ∙ record-part 15 48 (omega arith)
+
+    module _ (key : List ℕ) (ctr : ℕ) where
+      -- the tag of the record
+      abbrev pub tag-holds : Bool
+      tag-holds =
+          opens (keyWords key) (nonceBytes ctr i) (part ((i - 1) * 63) 15 table)
+          (part ((i - 1) * 63 + 15) 32 table) (part ((i - 1) * 63 + 15 + 32) 16 table)
+
+      body-is : bodyIn standard key ctr i (recordAt i table)
+          ≡ cond tag-holds (some (cipher (keyWords key) 1 (nonceBytes ctr i) (part ((i - 1) * 63 + 15) 32 table))) none
+      unfolding bodyIn
+      body-is =
+          ap₂ (λ (a x : List ℕ). opened (keyWords key) (nonceBytes ctr i) a x) record-clear record-body
+          ∙ opened-part (keyWords key) (nonceBytes ctr i) (part ((i - 1) * 63) 15 table) table ((i - 1) * 63 + 15) (omega arith)
+
+      -- the clear bytes fit
+      abbrev pub clear-fits : Bool
+      clear-fits =
+          headFits 61 (recordAt i table) && eqb (ofBe (part 3 8 (recordAt i table))) ctr && eqb (ofBe (part 11 4 (recordAt i table))) i
+
+      pub opens-not : clear-fits ≡ false → false ≡ there (tokenIn standard key ctr i (recordAt i table))
+      unfolding tokenIn
+      opens-not e = rw e
+
+      fits-body : clear-fits ≡ true → tokenIn standard key ctr i (recordAt i table) ≡ bodyIn standard key ctr i (recordAt i table)
+      unfolding tokenIn
+      fits-body e = rw e
+
+      there-cond : (b : Bool) (x : List ℕ) → there (cond b (some x) none) ≡ b
+      there-cond true x = refl
+      there-cond false x = refl
+
+      pub opens-is : (r : Bool) → clear-fits ≡ true → r ≡ tag-holds → r ≡ there (tokenIn standard key ctr i (recordAt i table))
+      opens-is r e f =
+          f
+          ∙ sym (there-cond tag-holds (cipher (keyWords key) 1 (nonceBytes ctr i) (part ((i - 1) * 63 + 15) 32 table)))
+          ∙ ap there (sym (fits-body e ∙ body-is))
+
+      -- the token of a record that opens
+      pub token-is : there (tokenIn standard key ctr i (recordAt i table)) ≡ true
+          → cipher (keyWords key) 1 (nonceBytes ctr i) (part ((i - 1) * 63 + 15) 32 table) ≡ value (tokenIn standard key ctr i (recordAt i table))
+      token-is h = go clear-fits refl tag-holds refl
+        where
+          x : List ℕ
+          x = cipher (keyWords key) 1 (nonceBytes ctr i) (part ((i - 1) * 63 + 15) 32 table)
+
+          go : (b : Bool) → clear-fits ≡ b → (g : Bool) → tag-holds ≡ g → x ≡ value (tokenIn standard key ctr i (recordAt i table))
+          go false e g f = no-false (opens-not e ∙ h)
+          go true e false f = no-false (sym f ∙ (opens-is tag-holds e refl ∙ h))
+          go true e true f = ap value (sym (fits-body e ∙ body-is ∙ ap (λ (z : Bool). cond z (some x) none) f))
+
+length-clear : (ctr i : ℕ) → length (clearBytes ctr i) ≡ 15
+unfolding clearBytes be le
+length-clear ctr i = refl
+
+-- a record put in place: clear bytes, token, seal
+pub sealed-is : (key x t t1 t2 t3 : List ℕ) (ctr i : ℕ) → length x ≡ 32 → (i - 1) * 63 + 63 ≤ length t
+    → t1 ≡ put ((i - 1) * 63) (clearBytes ctr i) t
+    → t2 ≡ put ((i - 1) * 63 + 15) x t1
+    → t3 ≡ put ((i - 1) * 63 + 15) (seal (keyWords key) (nonceBytes ctr i) (clearBytes ctr i) (part ((i - 1) * 63 + 15) 32 t2)) t2
+    → t3 ≡ put ((i - 1) * 63) (sealedRecord standard key ctr i x) t
+unfolding sealedRecord
+sealed-is key x t t1 t2 t3 ctr i lx inside e1 e2 e3 =
+    let a : ℕ = (i - 1) * 63 in
+    let w : List ℕ = seal (keyWords key) (nonceBytes ctr i) (clearBytes ctr i) x in
+    let lc : length (clearBytes ctr i) ≡ 15 = length-clear ctr i in
+    let lw : length w ≡ 48 = length-seal-32 (keyWords key) (nonceBytes ctr i) (clearBytes ctr i) x lx in
+    let l1 : length t1 ≡ length t = ap length e1 ∙ length-put a (clearBytes ctr i) t (omega arith) in
+    let p : part (a + 15) 32 t2 ≡ x = ap₂ (λ (u : List ℕ) (n : ℕ). part (a + 15) n u) e2 (sym lx) ∙ part-put (a + 15) x t1 (omega arith) in
+    e3
+    ∙ ap₂ (λ (u v : List ℕ). put (a + 15) (seal (keyWords key) (nonceBytes ctr i) (clearBytes ctr i) u) v) p e2
+    ∙ put-over (a + 15) x w t1 (omega arith) (omega arith)
+    ∙ ap₂ (λ (n : ℕ) (u : List ℕ). put (a + n) w u) (sym lc) e1
+    ∙ put-put a (clearBytes ctr i) w t (omega arith)
