@@ -1,0 +1,4 @@
+pub mod Distinct
+pub mod Rounds
+pub mod Walk
+pub mod Permutation
