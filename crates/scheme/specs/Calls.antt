@@ -92,6 +92,7 @@ module _ (P : Primitives) where
   unfoldable pub unusedBad : List ℕ → Card → List ℕ → ℕ
   unusedBad master c table = firstBad P (keyK P master (c .id)) (c .ctr) table (c .t + 1 - c .next) (c .next)
 
+  -- "Changes are lent master, card, table and what their brackets below name": 4 or 5 is the place's rung
   unfoldable pub changeCode : List ℕ → List ℕ → List ℕ → Edit → ℕ
   changeCode master card table edit =
       let c = readCard card in
