@@ -1,15 +1,15 @@
 -- Laws of numbers as bytes, over the width. Assumes nothing.
 --   length-le, length-be      so many bytes as the width says
---   le-bytes, be-bytes        each below 256
+--   le-bytes, be-bytes        each below 256; bytes-append: two lists of bytes joined
 --   of-le, of-be              a number comes back from its bytes, modulo 256 ^ w; le-back, be-back: whole where it is below that
 --   le-of, be-of              bytes come back from their number
 --   le-add, be-add            the bytes of a wide number are those of its two parts; of-le-append, of-be-append: the converse
-use Prim.Native.Nat.{ℕ, zero, suc, _+_, _*_, _-_, _/_, _%_, _^_, _≤_, _<_}
+use Prim.Native.Nat.{ℕ, zero, suc, _+_, _*_, _-_, _/_, _%_, _^_, _<_}
 use native.Mathlib.Omega.{arith}
 use native.Mathlib.Nat.{mod-eq-of-lt, div-div-eq-div-mul, pow-suc, pow-succ', div-one, mul-assoc, mul-comm, mul-add, add-assoc, add-comm, suc-add, zero-add}
 use mathlib.Core.Path.{_≡_, refl, sym, ap, ap₂, _∙_}
 use mathlib.Core.List.{List, [], _∷_, _++_, reverse, reverseAux, reverse-append, reverse-reverse}
-use lib.ListN.{length, length-append, length-reverse}
+use lib.ListN.{length, length-reverse}
 use lib.Arith.{mod-mul}
 use Rattle.octets.specs.Octets.{le, be, ofLe, ofBe, Bytes}
 
@@ -21,6 +21,10 @@ length-le (suc w) x = ap suc (length-le w (x / 256))
 pub length-be : (w x : ℕ) → length (be w x) ≡ w
 unfolding be
 length-be w x = length-reverse (le w x) ∙ length-le w x
+
+pub bytes-append : (xs ys : List ℕ) → Bytes xs → Bytes ys → Bytes (xs ++ ys)
+bytes-append [] ys h g = g
+bytes-append (x ∷ xs) ys h g = (h .0, bytes-append xs ys (h .1) g)
 
 -- bytes turned round are bytes
 bytes-onto : (xs ys : List ℕ) → Bytes xs → Bytes ys → Bytes (reverseAux xs ys)

@@ -13,9 +13,9 @@ use Prim.Native.Nat.{ℕ, suc, _+_, _*_, _/_, _%_, _^_, _≤_, _<_}
 use native.Mathlib.Omega.{arith}
 use native.Mathlib.Nat.{add-zero, zero-add}
 use mathlib.Core.Path.{_≡_, refl, sym, ap, ap₂, _∙_}
-use mathlib.Core.List.{List, [], _∷_, _++_, append-assoc, append-nil}
-use lib.ListN.{length, getD, take, drop, set, length-append, length-drop, length-take, take-append-drop}
-use lib.Seq.{take-suc, drop-cons, getD-drop, take-add, drop-drop, set-at, take-at, drop-at, length-take-le, take-append-add, drop-append-add, take-length}
+use mathlib.Core.List.{List, [], _∷_, _++_, append-assoc}
+use lib.ListN.{length, getD, take, drop, set, length-append, length-drop, take-append-drop}
+use lib.Seq.{take-suc, drop-cons, getD-drop, take-add, drop-drop, set-at, take-at, drop-at, length-take-le}
 use Rattle.octets.specs.Octets.{le, be, ofLe, ofBe, part, put}
 use Rattle.octets.proofs.NumberLaws.{length-le, length-be, le-add, be-add, of-le-append, of-be-append}
 

@@ -2,7 +2,7 @@
 --   same-refl     a list is the same as itself
 --   same-true     lists that are found the same are equal
 --   same-at       one more element
-use Prim.Native.Nat.{ℕ, zero, suc}
+use Prim.Native.Nat.{ℕ}
 use native.Mathlib.Omega.{arith}
 use mathlib.Core.Path.{_≡_, refl, ap₂}
 use mathlib.Core.List.{List, [], _∷_}

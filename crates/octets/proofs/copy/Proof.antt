@@ -1,7 +1,7 @@
 -- After i turns the first i bytes are in place, by copy-again.
 use borrow.Author.Needs.{needs}
 use Rattle.octets.proofs.LoopLaws.{copy-none, copy-again, copy-done}
-use Prim.Native.Nat.{_+_, _-_, _≤_}
+use Prim.Native.Nat.{_-_, _≤_}
 use mathlib.Core.Path.{_≡_, refl}
 use lib.ListN.{length, take, length-set}
 use Rattle.octets.specs.Octets.{put}

@@ -1,8 +1,8 @@
 -- Nothing differed so far and the rest is the same, by same-again.
 use borrow.Author.Needs.{needs}
 use Rattle.octets.proofs.LoopLaws.{same-none, same-again, same-done}
-use Prim.Native.Nat.{_+_, _-_, _≤_}
-use mathlib.Core.Path.{_≡_, refl}
+use Prim.Native.Nat.{_-_, _≤_}
+use mathlib.Core.Path.{_≡_}
 use mathlib.Core.Bool.{_&&_}
 use lib.Dec.{eqb}
 use lib.ListN.{length, drop}
