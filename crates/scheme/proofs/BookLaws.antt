@@ -1,9 +1,11 @@
 -- What a book keeps, and what its fresh records are. Assumes nothing.
---   Good                    a book that can be: its limits, its blocks' sizes, its spent records
---   small, back             its card's numbers come back from their bytes
---   fresh-long, fresh-opens, none-bad, sound   its fresh records open
---   table-long, table-first, table-open        its table
---   table-changed           resealing follows a change of blocks
+--   Good                                       a book that can be: its limits, its blocks' sizes, its spent records
+--   small, back                                its card's numbers come back from their bytes
+--   token-long, fresh-long, fresh-opens        fresh tokens and records, and that they open
+--   sound                                      no unused record of its table is bad
+--   table-plain, table-long, table-first       its table, its length, its first fresh record
+--   record-next, table-open                    the records of the token to draw and of the open token
+--   table-changed                              resealing follows a change of blocks
 use Prim.Native.Nat.{ℕ, zero, suc, _+_, _*_, _-_, _≤_, _<_}
 use native.Mathlib.Omega.{arith}
 use mathlib.Core.Path.{_≡_, refl, sym, ap, ap₂, _∙_}

@@ -18,7 +18,7 @@ use Rattle.scheme.specs.Table.{sealedRecord}
 use Rattle.scheme.specs.Judging.{verdict}
 use Rattle.scheme.specs.Calls.{Edit, update, delete, append, changeCode, changeCard, changeTable, drawCode, drawCard, judgeFault, judgeCode, judgeCard}
 
--- update, delete or append; draw, with the buffer lent for a message; judge, with the reply
+-- an update, delete or append; draw, with the buffer lent for a message; judge, with the reply
 pub data Call : Type 0 where
   change : Edit → Call
   draw : List ℕ → Call
@@ -122,7 +122,7 @@ edited (delete m old) b = set (b .blocks) (m - 1) (replicate (b .B) 0)
 edited (append new) b = b .blocks ++ new ∷ []
 
 module _ (P : Primitives) where
-  -- the number that a call returns, the card after it and the table after it
+  -- the number that a call returns, the card after it and the table after it: `updateCode` is `changeCode` of an update, and so on
   abbrev pub callCode : List ℕ → Call → List ℕ → List ℕ → ℕ
   callCode master (change e) card table = changeCode P master card table e
   callCode master (draw message) card table = drawCode P master card message
