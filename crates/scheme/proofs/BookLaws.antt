@@ -1,16 +1,18 @@
 -- What a book keeps, and what its fresh records are. Assumes nothing.
---   Good                    a book that can be: its limits, its blocks' sizes, its spent records
---   small, back             its card's numbers come back from their bytes
---   fresh-long, fresh-opens, none-bad, sound   its fresh records open
---   table-long, table-first, table-open        its table
---   table-changed           resealing follows a change of blocks
+--   Good                                       a book that can be: its limits, its blocks' sizes, its spent records
+--   small, back                                its card's numbers come back from their bytes
+--   token-long, fresh-long, fresh-opens        fresh tokens and records, and that they open
+--   sound                                      no unused record of its table is bad
+--   table-plain, table-long, table-first       its table, its length, its first fresh record
+--   record-next, table-open                    the records of the token to draw and of the open token
+--   table-changed                              resealing follows a change of blocks
 use Prim.Native.Nat.{ℕ, zero, suc, _+_, _*_, _-_, _≤_, _<_}
 use native.Mathlib.Omega.{arith}
 use mathlib.Core.Path.{_≡_, refl, sym, ap, ap₂, _∙_}
 use mathlib.Core.List.{List, _++_, append-assoc}
 use mathlib.Core.Option.{some}
 use lib.ListN.{length, take, drop, length-append, length-drop}
-use lib.Seq.{take-at, drop-at, take-append-le, drop-append-le}
+use lib.Seq.{take-append-le, drop-append-le}
 use Rattle.octets.specs.Octets.{put}
 use Rattle.scheme.specs.Lists.{joined, recordsFrom}
 use Rattle.scheme.specs.Primitives.{Primitives}
@@ -22,14 +24,7 @@ use Rattle.scheme.specs.Book.{Book, bookCard, withBlocks, freshToken, fr
 use Rattle.scheme.proofs.TokenLaws.{length-digest}
 use Rattle.scheme.proofs.LimitLaws.{Limits, open-last, open-most}
 use Rattle.scheme.proofs.RecordLaws.{CardSmall, card-back, token-back, record-long, record-at}
-use Rattle.scheme.proofs.TableLaws.{Sized, length-records}
-
--- a record put in the place of another
-pub put-at : (at : ℕ) (p x y q : List ℕ) → length p ≡ at → length x ≡ 63 → length y ≡ 63 → put at y (p ++ (x ++ q)) ≡ p ++ (y ++ q)
-unfolding put
-put-at at p x y q h l m =
-    let rest : drop (length y) (drop at (p ++ (x ++ q))) ≡ q = ap₂ drop m (drop-at p (x ++ q) at h) ∙ drop-at x q 63 l in
-    rw (take-at p (x ++ q) at h, rest)
+use Rattle.scheme.proofs.TableLaws.{Sized, put-at, length-records}
 
 module _ (P : Primitives) where
   pub record Good (b : Book) : Type 0 where
@@ -166,7 +161,7 @@ module _ (P : Primitives) where
         let long : length new ≡ 63 = fresh-long (withBlocks b blocks) i in
         let at : put ((i - 1) * 63) (resealedRecord P (b .key) (bookCard b) block ch i (recordAt i table)) table ≡ (p ++ new) ++ rest =
         ap₂ (put ((i - 1) * 63)) (one-resealed i (recordAt i table) (omega arith) (at-fresh b table m i p e h)) e
-        ∙ put-at ((i - 1) * 63) p (freshRecord P b i) new rest h (fresh-long b i) long
+        ∙ put-at ((i - 1) * 63) p (freshRecord P b i) new rest h (fresh-long b i ∙ sym long)
         ∙ sym (append-assoc p new rest) in
         all-resealed (put ((i - 1) * 63) (resealedRecord P (b .key) (bookCard b) block ch i (recordAt i table)) table) m (i + 1) (p ++ new)
         (omega arith) (omega arith) (longer b i p new long l h) at

@@ -3,14 +3,14 @@
 --   small-inputs   the column "Small input" of "Turned away"
 --   in-order       pairs of faults in the order of "Turned away"
 --   causes         each cause of a rejected reply, and pairs of causes in their order
---   week           a list of calls: its numbers and the card it leaves
+--   week           a list of calls: its numbers, and the card and the table it leaves; week-honest: the list theorem speaks of it
 use Prim.Native.Nat.{ℕ, _+_, _*_, _-_, _%_}
 use native.Mathlib.Omega.{arith}
 use mathlib.Core.Path.{_≡_, refl, ap, _∙_}
 use mathlib.Core.List.{List, [], _∷_, _++_}
 use mathlib.Core.Option.{none, some}
 use mathlib.Core.Bool.{cond}
-use lib.ListN.{take, drop, set, replicate, length-append}
+use lib.ListN.{length, take, drop, set, replicate, length-append}
 use lib.Seq.{take-at, drop-at}
 use Rattle.octets.specs.Octets.{le, be, ofLe, ofBe, put, same, xors}
 use Rattle.octets.proofs.SameLaws.{same-refl}
@@ -22,7 +22,7 @@ use Rattle.scheme.specs.Tokens.{rowOf, columnOf, blockIn, columnsOf, blo
 use Rattle.scheme.specs.Table.{sealedRecord, bodyIn, tokenIn, firstBad, resealedRecord, reseal}
 use Rattle.scheme.specs.Judging.{causeNumber, verdictOf, cause, verdict}
 use Rattle.scheme.specs.Calls.{update, delete, append, changedCard, turnedCard, setUpCode, setUpCard, setUpTable, unusedBad, changeCode, changeCard, changeTable, updateCode, deleteCode, appendCode, drawCode, drawCard, messageFor, drawMessage, judgeFault, judgeCode, judgeCard, proveCode, proveReply}
-use Rattle.scheme.specs.Book.{Call, change, draw, judge, Lent, Ran, run}
+use Rattle.scheme.specs.Book.{Call, change, draw, judge, Lent, Ran, run, started, bookCard, withBlocks, withTurn, freshToken, freshRecord, bookTable, bookFault, bookAfter, Honest}
 
 abbrev fold : List ℕ → ℕ
 fold [] = 0
@@ -153,10 +153,14 @@ lent x = record { master = key; call = x }
 -- after a set-up with B 1, d 2, r 1, t 1: judge with nothing open; update block 0; update by a block of two bytes; update with a master of 31 bytes;
 -- update, append and delete; delete block 4; draw to a buffer of 90 bytes; draw; draw and append while a token is open; judge a reply of no bytes; "t 1,
 -- one draw judged, draw"; append with no token left
-pub week : _≡_ {A = Ran} (run standIn
-    (lent (judge []) ∷ lent (change (update 0 (5 ∷ []) (9 ∷ []))) ∷ lent (change (update 1 (5 ∷ []) (9 ∷ 9 ∷ []))) ∷ record { master = replicate 31 7; call = change (update 1 (5 ∷ []) (9 ∷ [])) }
+abbrev weekCalls : List Lent
+weekCalls =
+    lent (judge []) ∷ lent (change (update 0 (5 ∷ []) (9 ∷ []))) ∷ lent (change (update 1 (5 ∷ []) (9 ∷ 9 ∷ []))) ∷ record { master = replicate 31 7; call = change (update 1 (5 ∷ []) (9 ∷ [])) }
     ∷ lent (change (update 1 (5 ∷ []) (9 ∷ []))) ∷ lent (change (append (8 ∷ []))) ∷ lent (change (delete 3 (8 ∷ []))) ∷ lent (change (delete 4 (8 ∷ [])))
-    ∷ lent (draw (replicate 90 0)) ∷ lent (draw blank) ∷ lent (draw blank) ∷ lent (change (append (8 ∷ []))) ∷ lent (judge []) ∷ lent (draw blank) ∷ lent (change (append (3 ∷ []))) ∷ [])
+    ∷ lent (draw (replicate 90 0)) ∷ lent (draw blank) ∷ lent (draw blank) ∷ lent (change (append (8 ∷ []))) ∷ lent (judge []) ∷ lent (draw blank) ∷ lent (change (append (3 ∷ []))) ∷ []
+
+pub week : _≡_ {A = Ran}
+    (run standIn weekCalls
     (setUpCard standIn key id 1 2 1 1 (5 ∷ 6 ∷ []) (replicate 43 0) (replicate 63 0))
     (setUpTable standIn key id 1 2 1 1 (5 ∷ 6 ∷ []) (replicate 43 0) (replicate 63 0)))
     (record {
@@ -166,3 +170,10 @@ pub week : _≡_ {A = Ran} (run standIn
     })
 unfolding run be le ofBe ofLe put same xors first joined pieces xorBelow recordsFrom cardBytes readCard shapeFits tokenFits blocksFit cardFits headFits clearBytes nonceBytes recordAt rowOf columnOf blockIn columnsOf blockAt indexOf keyW keyZ keyK drawKey hashKey blockHash columnHash drawnRow positionOf rowDigest digest token mixed changedDigest sealedRecord bodyIn tokenIn firstBad resealedRecord reseal causeNumber verdictOf cause verdict changedCard turnedCard setUpCode setUpCard setUpTable unusedBad changeCode changeCard changeTable drawCode drawCard judgeFault judgeCode judgeCard
 week = refl
+
+-- the list theorem speaks of this list
+pub week-honest : (setUpCode standIn key id 1 2 1 1 (5 ∷ 6 ∷ []) (replicate 43 0) (replicate 63 0) ≡ 0) × Honest standIn weekCalls (started key id 1 2 1 1 (5 ∷ 6 ∷ []))
+unfolding be le ofBe ofLe put same xors first joined pieces xorBelow recordsFrom cardBytes readCard shapeFits tokenFits blocksFit cardFits headFits clearBytes nonceBytes recordAt rowOf columnOf blockIn columnsOf blockAt indexOf keyW keyZ keyK drawKey hashKey blockHash columnHash drawnRow positionOf rowDigest digest token mixed changedDigest sealedRecord bodyIn tokenIn firstBad resealedRecord reseal causeNumber verdictOf cause verdict changedCard turnedCard setUpCode setUpCard setUpTable unusedBad changeCode changeCard changeTable drawCode drawCard judgeFault judgeCode judgeCard started bookCard withBlocks withTurn freshToken freshRecord bookTable bookFault bookAfter
+week-honest =
+    let own : length key ≡ 32 → key ≡ key = λ l. refl in
+    (refl, (own, λ e. tt, (own, λ e. absurd (omega arith), (own, λ e. absurd (omega arith), (λ l. absurd (omega arith), λ e. absurd (omega arith), (own, λ e. refl, (own, λ e. tt, (own, λ e. refl, (own, λ e. absurd (omega arith), (own, λ e. tt, (own, λ e. tt, (own, λ e. tt, (own, λ e. tt, (own, λ e. tt, (own, λ e. tt, (own, λ e. tt, tt))))))))))))))))

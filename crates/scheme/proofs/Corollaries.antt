@@ -3,7 +3,7 @@
 --   host-accepted    the reply that prove writes from the drawn message, the current blocks and the table left is accepted on the drawn card
 use Prim.Native.Nat.{ℕ, _+_, _*_, _≤_}
 use native.Mathlib.Omega.{arith}
-use mathlib.Core.Path.{_≡_, refl, sym, ap, ap₂, _∙_}
+use mathlib.Core.Path.{_≡_, refl, sym, ap, ap₂, _∙_, subst}
 use mathlib.Core.Logic.{_↔_}
 use mathlib.Core.List.{List, [], _∷_, _++_}
 use mathlib.Core.Option.{some}
@@ -245,14 +245,25 @@ module _ (P : Primitives) (master id : List ℕ) (B d r t : ℕ) (blocks card ta
   table-left : ran .table ≡ bookTable P book
   table-left = ap (λ (x : Ran). x .table) (theorem P master id B d r t blocks card table ok calls honest)
 
-  pub judge-exactly : 1 ≤ book .open′ → (reply : List ℕ) → wellFormed (readCard (ran .card)) reply ≡ true → drop 47 reply ≡ recordAt (book .open′) (ran .table)
-      → (judgeCode P master (ran .card) reply ≡ 0) ↔ (part 15 32 reply ≡ freshToken P book (book .open′))
-  judge-exactly opn reply formed carries =
-      let f : wellFormed (bookCard book) reply ≡ true = ap (λ (x : Card). wellFormed x reply) (sym (ap readCard card-left ∙ back P book good)) ∙ formed in
-      let j = judged P book good opn reply f (carries ∙ ap (recordAt (book .open′)) table-left) in
+  card-read : readCard (ran .card) ≡ bookCard book
+  card-read = ap readCard card-left ∙ back P book good
+
+  -- on the book's card
+  on-book : 1 ≤ (bookCard book) .open′ → (reply : List ℕ) → wellFormed (bookCard book) reply ≡ true → drop 47 reply ≡ recordAt ((bookCard book) .open′) (ran .table)
+      → (judgeCode P master (ran .card) reply ≡ 0) ↔ (part 15 32 reply ≡ freshToken P book ((bookCard book) .open′))
+  unfolding bookCard
+  on-book opn reply formed carries =
+      let j = judged P book good opn reply formed (carries ∙ ap (recordAt (book .open′)) table-left) in
       let e : judgeCode P master (ran .card) reply ≡ judgeCode P (book .key) (cardBytes (bookCard book)) reply =
       ap₂ (λ (x y : List ℕ). judgeCode P x y reply) (sym key) card-left in
       (λ h. j .0 (sym e ∙ h), λ h. e ∙ j .1 h)
+
+  pub judge-exactly : 1 ≤ (readCard (ran .card)) .open′ → (reply : List ℕ) → wellFormed (readCard (ran .card)) reply ≡ true
+      → drop 47 reply ≡ recordAt ((readCard (ran .card)) .open′) (ran .table)
+      → (judgeCode P master (ran .card) reply ≡ 0) ↔ (part 15 32 reply ≡ freshToken P book ((readCard (ran .card)) .open′))
+  judge-exactly =
+      subst (λ (c : Card). 1 ≤ c .open′ → (reply : List ℕ) → wellFormed c reply ≡ true → drop 47 reply ≡ recordAt (c .open′) (ran .table)
+      → (judgeCode P master (ran .card) reply ≡ 0) ↔ (part 15 32 reply ≡ freshToken P book (c .open′))) (sym card-read) on-book
 
   pub host-accepted : (buffer space : List ℕ) → drawCode P master (ran .card) buffer ≡ 0 → length space ≡ 110
       → (proveCode P (drawMessage P master (ran .card) buffer) (joined (book .blocks)) (ran .table) space ≡ 0)

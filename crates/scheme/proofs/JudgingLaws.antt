@@ -1,6 +1,6 @@
 -- The verdict is 0 exactly by paper 01's rule, and exactly where there is no cause. Assumes nothing.
 --   verdict-either       a verdict is 0 or 11
---   verdict-none         it is 0 exactly where the cause has number 0
+--   verdict-none         it is 0 exactly where there is no cause
 --   accepted-exactly     it is 0 exactly where the reply is accepted by the rule
 use Prim.Native.Nat.{ℕ, _≤_}
 use native.Mathlib.Omega.{arith}
@@ -22,16 +22,20 @@ use Rattle.scheme.specs.Table.{there, value, bodyIn}
 use Rattle.scheme.specs.Judging.{Cause, wrongSize, wrongHeader, otherToken, otherCounter, badTag, otherDigest, noCause, causeNumber, verdictOf, cause, verdict, Accepted}
 use Rattle.scheme.proofs.LadderLaws.{no-false, both}
 
--- a cause with a number is no acceptance
-pub rejected : (why : Cause) → 1 ≤ causeNumber why → verdictOf why ≡ 0 → ⊥
+-- only none gives 0
+only-none : (why : Cause) → verdictOf why ≡ 0 → why ≡ noCause
 unfolding verdictOf causeNumber
-rejected noCause l h = omega arith
-rejected wrongSize l h = omega arith
-rejected wrongHeader l h = omega arith
-rejected otherToken l h = omega arith
-rejected otherCounter l h = omega arith
-rejected badTag l h = omega arith
-rejected otherDigest l h = omega arith
+only-none noCause h = refl
+only-none wrongSize h = absurd (omega arith)
+only-none wrongHeader h = absurd (omega arith)
+only-none otherToken h = absurd (omega arith)
+only-none otherCounter h = absurd (omega arith)
+only-none badTag h = absurd (omega arith)
+only-none otherDigest h = absurd (omega arith)
+
+numbered : (why : Cause) → why ≡ noCause → 1 ≤ causeNumber why → ⊥
+unfolding causeNumber
+numbered why e l = let l′ : 1 ≤ 0 = rw e at l in omega arith
 
 either-way : (b : Bool) → (_≡_ {A = ℕ} (cond b 0 11) 0) ⊎ (_≡_ {A = ℕ} (cond b 0 11) 11)
 either-way true = inl refl
@@ -44,7 +48,7 @@ cause-rung r rest l h = go (r .0) refl h
   where
     go : (b : Bool) → r .0 ≡ b → verdictOf (cond b (first noCause rest) (r .1)) ≡ 0 → (r .0 ≡ true) × (verdictOf (first noCause rest) ≡ 0)
     go true e h = (e, h)
-    go false e h = absurd (rejected (r .1) l h)
+    go false e h = absurd (numbered (r .1) (only-none (r .1) h) l)
 
 -- a token that is there and is x
 some-value : (o : Option (List ℕ)) (x : List ℕ) → there o ≡ true → same (value o) x ≡ true → o ≡ some x
@@ -52,13 +56,9 @@ some-value none x h g = no-false h
 some-value (some y) x h g = ap some (same-true y x g)
 
 module _ (P : Primitives) (master : List ℕ) (c : Card) (reply : List ℕ) where
-  pub verdict-none : (verdict P master c reply ≡ 0) ↔ (causeNumber (cause P master c reply) ≡ 0)
-  unfolding verdict verdictOf
-  verdict-none = (λ h. go (eqb (causeNumber (cause P master c reply)) 0) refl h, λ e. rw e)
-    where
-      go : (b : Bool) → eqb (causeNumber (cause P master c reply)) 0 ≡ b → _≡_ {A = ℕ} (cond b 0 11) 0 → causeNumber (cause P master c reply) ≡ 0
-      go true e h = eqb-true (causeNumber (cause P master c reply)) 0 e
-      go false e h = absurd (omega arith)
+  pub verdict-none : (verdict P master c reply ≡ 0) ↔ (cause P master c reply ≡ noCause)
+  unfolding verdict verdictOf causeNumber
+  verdict-none = (λ h. only-none (cause P master c reply) h, λ e. rw e)
 
   -- what an accepted reply has
   accepted-has : verdict P master c reply ≡ 0 → Accepted P master c reply

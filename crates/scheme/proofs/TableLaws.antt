@@ -1,5 +1,7 @@
 -- Laws of a table: records one after the other, and what loops over them hold. Assumes nothing.
 --   joined-append, joined-long, pieces-length, pieces-sized, pieces-joined   lists end to end, and cut again
+--   pieces-at, block-at                                                      a piece, and a block, of a buffer
+--   put-at                                                                   a list put in the place of another
 --   length-records, records-same                                             records one after the other
 --   Filled: filled-start, filled-step, filled-end                            a table that is filled from its first record on
 --   bad-step, bad-found, bad-none                                            the search for a record that does not open
@@ -10,14 +12,14 @@ use native.Mathlib.Nat.{add-mul, one-mul, zero-mul}
 use mathlib.Core.Path.{_≡_, refl, sym, ap, ap₂, _∙_}
 use mathlib.Core.List.{List, [], _∷_, _++_, append-assoc, append-nil}
 use mathlib.Core.Bool.{true, false}
-use lib.ListN.{length, take, drop, length-append, length-drop}
-use lib.Seq.{take-at, drop-at, length-take-le, take-all}
-use Rattle.octets.specs.Octets.{put}
+use lib.ListN.{length, getD, take, drop, length-append, length-drop}
+use lib.Seq.{take-at, drop-at, drop-drop, length-take-le, take-all}
+use Rattle.octets.specs.Octets.{part, put}
 use Rattle.octets.proofs.PartLaws.{take-put}
 use Rattle.scheme.specs.Lists.{joined, pieces, recordsFrom}
 use Rattle.scheme.specs.Primitives.{Primitives}
 use Rattle.scheme.specs.Records.{Card, recordAt}
-use Rattle.scheme.specs.Tokens.{Change}
+use Rattle.scheme.specs.Tokens.{Change, blockAt}
 use Rattle.scheme.specs.Table.{there, tokenIn, firstBad, resealedRecord, reseal}
 
 -- every list has B elements
@@ -59,6 +61,27 @@ pieces-joined B (x ∷ xs) s =
     ap₂ (λ (y : List ℕ) (ys : List (List ℕ)). y ∷ ys)
     (take-at x (joined xs) B (s .0))
     (ap (pieces B (length xs)) (drop-at x (joined xs) B (s .0)) ∙ pieces-joined B xs (s .1))
+
+-- piece m of a list, from 0
+pub pieces-at : (B n : ℕ) (xs : List ℕ) (m : ℕ) → m < n → getD (pieces B n xs) m [] ≡ part (m * B) B xs
+unfolding pieces
+pieces-at B zero xs m h = absurd (omega arith)
+pieces-at B (suc n) xs zero h = let z : 0 * B ≡ 0 = zero-mul B in rw z
+pieces-at B (suc n) xs (suc m) h =
+    let z : B + m * B ≡ suc m * B = omega (arith, one-more m B) in
+    pieces-at B n (drop B xs) m (omega arith) ∙ ap (take B) (drop-drop (m * B) B xs) ∙ ap (λ (a : ℕ). part a B xs) z
+
+-- block m of a buffer of n blocks, from 1
+pub block-at : (B n : ℕ) (xs : List ℕ) (m : ℕ) → 1 ≤ m → m ≤ n → blockAt m (pieces B n xs) ≡ part ((m - 1) * B) B xs
+unfolding blockAt
+block-at B n xs m h l = pieces-at B n xs (m - 1) (omega arith)
+
+-- a list put in the place of another of its length
+pub put-at : (at : ℕ) (p x y q : List ℕ) → length p ≡ at → length x ≡ length y → put at y (p ++ (x ++ q)) ≡ p ++ (y ++ q)
+unfolding put
+put-at at p x y q h l =
+    let rest : drop (length y) (drop at (p ++ (x ++ q))) ≡ q = ap (drop (length y)) (drop-at p (x ++ q) at h) ∙ drop-at x q (length y) l in
+    rw (take-at p (x ++ q) at h, rest)
 
 -- records one after the other
 module _ (f : ℕ → List ℕ) where

@@ -8,7 +8,7 @@
 --   judgeFault, judgeCode, judgeCard
 --   proveCode, proveReply
 use Prim.Native.Nat.{ℕ, _+_, _*_, _-_}
-use mathlib.Core.List.{List, [], _∷_}
+use mathlib.Core.List.{List, [], _∷_, _++_}
 use mathlib.Core.Bool.{Bool, _&&_}
 use lib.ListN.{length, replicate}
 use lib.Dec.{eqb, leb, ltb}
@@ -92,20 +92,24 @@ module _ (P : Primitives) where
   unfoldable pub unusedBad : List ℕ → Card → List ℕ → ℕ
   unusedBad master c table = firstBad P (keyK P master (c .id)) (c .ctr) table (c .t + 1 - c .next) (c .next)
 
-  unfoldable pub changeCode : List ℕ → List ℕ → List ℕ → Edit → ℕ
-  changeCode master card table edit =
+  -- "Changes are lent master, card, table and what their brackets below name": 4 or 5 is the place's rung
+  -- the ladder of a change before it looks at the records of the table
+  abbrev pub changeChecks : List ℕ → List ℕ → List ℕ → Edit → List (Bool × ℕ)
+  changeChecks master card table edit =
       let c = readCard card in
-      let bad = unusedBad master c table in
-      first 0
-      ((eqb (length master) 32 && eqb (length card) 43, 1)
+      (eqb (length master) 32 && eqb (length card) 43, 1)
       ∷ (headFits 41 card, 2)
       ∷ (cardFits c, 3)
       ∷ (eqb (length table) (c .t * 63) && handedFits c edit, 1)
       ∷ (eqb (c .open′) 0, 8)
       ∷ placeRung c edit
       ∷ (ltb (c .ctr) 4294967295, 10)
-      ∷ (eqb bad 0, 7 + 256 * bad)
-      ∷ [])
+      ∷ []
+
+  unfoldable pub changeCode : List ℕ → List ℕ → List ℕ → Edit → ℕ
+  changeCode master card table edit =
+      let bad = unusedBad master (readCard card) table in
+      first 0 (changeChecks master card table edit ++ (eqb bad 0, 7 + 256 * bad) ∷ [])
 
   -- "The card takes that counter, and append adds 1 to its n"
   unfoldable pub changeCard : List ℕ → List ℕ → List ℕ → Edit → List ℕ

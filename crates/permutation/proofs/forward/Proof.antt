@@ -4,16 +4,16 @@ use mathlib.Core.Path.{_∙_}
 use Prim.Native.Nat.{_+_, _-_, _^_, _≤_}
 use native.Mathlib.Omega.{arith}
 use Rattle.permutation.specs.Rounds.{half}
-use Rattle.permutation.specs.Permutation.{eight, forward, forwardTurns}
+use Rattle.permutation.specs.Permutation.{eightRounds, forward, forwardTurns}
 use Rattle.permutation.proofs.WalkLaws.{Going}
 use Rattle.permutation.proofs.WalkLoop.{started, onward, within, few, answered}
 use Rattle.permutation.proofs.WidthLaws.{half-wide, half-le, whole-le}
-use Rattle.permutation.proofs.PermutationLaws.{undone, eight-at}
+use Rattle.permutation.proofs.PermutationLaws.{undone, rounds-at}
 use Rattle.permutation.proofs.forward.Statement.{statement}
 use Rattle.permutation.proofs.forward.Tie as tie
 
 abbrev Inv-loop : tie.InvT-loop
-Inv-loop key d x h v₀ t₀ v t = Going (eight key d) d x v t
+Inv-loop key d x h v₀ t₀ v t = Going (eightRounds key d) d x v t
 
 abbrev μ-loop : tie.MeasureT-loop
 μ-loop key d x h v₀ t₀ v t = 4 ^ half d - d + 1 - t
@@ -38,7 +38,7 @@ rounds-requires c κs = (width c, rw (c .half-width .ensures) (omega (arith, hal
 loop-holds : tie.Need-loop-holds Inv-loop μ-loop
 loop-holds c =
     let a = c .before .before .args in
-    started (a .d) (a .x) (c .rounds .ensures ∙ eight-at (a .key) (a .d) (a .x) (c .before .half-width .ensures))
+    started (a .d) (a .x) (c .rounds .ensures ∙ rounds-at (a .key) (a .d) (a .x) (c .before .half-width .ensures))
 
 rounds-requires-2 : tie.Need-rounds-requires-2 Inv-loop μ-loop
 rounds-requires-2 c κs =
@@ -60,7 +60,7 @@ loop-again c =
     let k = c .before .before .before .before in
     let a = k .before .args in
     let l = c .before .before .loop in
-    onward (l .inv) (omega arith) (c .rounds2 .ensures ∙ eight-at (a .key) (a .d) (l .v) (k .half-width .ensures))
+    onward (l .inv) (omega arith) (c .rounds2 .ensures ∙ rounds-at (a .key) (a .d) (l .v) (k .half-width .ensures))
 
 returns : tie.Need-returns Inv-loop μ-loop
 unfolding forward forwardTurns
