@@ -1,0 +1,26 @@
+-- The tests are those of cardFits, by card-fits-is.
+use Rattle.records.specs.Fields.{cardOf}
+use Rattle.records.proofs.FieldLaws.{card-fits-is}
+use borrow.Author.Needs.{needs}
+use Rattle.records.proofs.card_fits.Statement.{statement}
+use Rattle.records.proofs.card_fits.Tie as tie
+
+shape-fits-requires : tie.Need-shape-fits-requires
+shape-fits-requires c κs = search needs
+
+token-fits-requires : tie.Need-token-fits-requires
+token-fits-requires c κs = search needs
+
+blocks-fit-requires : tie.Need-blocks-fit-requires
+blocks-fit-requires c κs = search needs
+
+turn-fits-requires : tie.Need-turn-fits-requires
+turn-fits-requires c κs = search needs
+
+returns : tie.Need-returns
+unfolding cardOf
+returns c =
+    card-fits-is (cardOf (c .before .before .before .before .before .args .c)) (c .before .before .before .before .shape-fits .ensures) (c .before .before .before .token-fits .ensures) (c .before .before .blocks-fit .ensures) (c .before .turn-fits .ensures)
+
+pub card-fits-spec : {M : Type 1} → statement M
+card-fits-spec = tie.close (tie.spec shape-fits-requires token-fits-requires blocks-fit-requires turn-fits-requires returns)

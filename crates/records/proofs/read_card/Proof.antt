@@ -1,0 +1,42 @@
+-- Each field is read from its bytes, by card-is.
+use Rattle.records.specs.Fields.{cardOf}
+use Rattle.records.proofs.FieldLaws.{card-is}
+use borrow.Author.Needs.{needs}
+use Rattle.records.proofs.read_card.Statement.{statement}
+use Rattle.records.proofs.read_card.Tie as tie
+
+bytes8-requires : tie.Need-bytes8-requires
+bytes8-requires c κs = search needs
+
+be2-requires : tie.Need-be2-requires
+be2-requires c κs = search needs
+
+be4-requires : tie.Need-be4-requires
+be4-requires c κs = search needs
+
+be2-requires-2 : tie.Need-be2-requires-2
+be2-requires-2 c κs = search needs
+
+be4-requires-2 : tie.Need-be4-requires-2
+be4-requires-2 c κs = search needs
+
+be4-requires-3 : tie.Need-be4-requires-3
+be4-requires-3 c κs = search needs
+
+be8-requires : tie.Need-be8-requires
+be8-requires c κs = search needs
+
+be4-requires-4 : tie.Need-be4-requires-4
+be4-requires-4 c κs = search needs
+
+be4-requires-5 : tie.Need-be4-requires-5
+be4-requires-5 c κs = search needs
+
+returns : tie.Need-returns
+unfolding cardOf
+returns c =
+    card-is (c .before .before .before .before .before .before .before .before .before .before .args .s .now) (c .before .before .before .before .before .before .before .before .bytes8 .ensures) (c .before .before .before .before .before .before .before .be2 .ensures .0) (c .before .before .before .before .before .before .be4 .ensures) (c .before .before .before .before .before .be22 .ensures .0)
+    (c .before .before .before .before .be42 .ensures) (c .before .before .before .be43 .ensures) (c .before .before .be8 .ensures) (c .before .be44 .ensures) (c .be45 .ensures)
+
+pub read-card-spec : {M : Type 1} → statement M
+read-card-spec = tie.close (tie.spec bytes8-requires be2-requires be4-requires be2-requires-2 be4-requires-2 be4-requires-3 be8-requires be4-requires-4 be4-requires-5 returns)
