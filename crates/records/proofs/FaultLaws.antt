@@ -1,21 +1,24 @@
 -- The codes of a card's and a message's checks: from the tests, back to the tests, and in the ladders of the calls. Assumes nothing.
---   fault-of                                   a code from its three tests
+--   card-code, message-code                    a code from its three tests
 --   CardFine, card-fine                        what a card of code 0 has; card-held: the limits of its numbers in the program
 --   MessageFine, message-fine                  the same of a message; message-held
 --   MessageLimits, message-limited             the limits of a message's numbers
 --   card-rungs, message-rungs                  the first three rungs of a call's ladder as one code
 --   rungs-other, rungs-refused, rungs-passed   the three ways out of these rungs
---   and-swap                                   tests of other buffers in front of the record's
+--   first-swap, first-swap-last                tests of other buffers in front of the record's
+--   change-refused .. prove-refused            each call gives the code of its card or message
 use Prim.Native.Nat.{ℕ, zero, suc, _≤_}
 use native.Mathlib.Omega.{arith}
 use mathlib.Core.Path.{_≡_, refl, sym, ap, _∙_}
 use mathlib.Core.List.{List, [], _∷_}
-use mathlib.Core.Bool.{Bool, true, false, cond, _&&_, and-comm}
+use mathlib.Core.Bool.{Bool, true, false, cond, _&&_, and-comm, and-assoc}
 use borrow.Author.Tests.{eqb-true}
 use lib.Dec.{eqb}
 use lib.ListN.{length}
 use Rattle.scheme.specs.Ladder.{first, ifZero}
 use Rattle.scheme.specs.Records.{readCard, cardFits, headFits, Message, readMessage, messageFits}
+use Rattle.scheme.specs.Primitives.{Primitives}
+use Rattle.scheme.specs.Calls.{Edit, changeCode, drawCode, judgeFault, proveCode}
 use Rattle.scheme.proofs.LadderLaws.{rung}
 use Rattle.scheme.proofs.LimitLaws.{Limits, card-limits, Shape, message-limits}
 use Rattle.records.specs.declared.Card as DC
@@ -23,10 +26,28 @@ use Rattle.records.specs.declared.Message as DM
 use Rattle.records.specs.Fields.{cardOf, messageOf, cardFault, messageFault}
 
 -- a code from its three tests
-pub fault-of : (k h f : Bool) {b₁ b₂ b₃ : Bool} → k ≡ b₁ → h ≡ b₂ → f ≡ b₃
-    → _≡_ {A = ℕ} (cond b₁ (cond b₂ (cond b₃ 0 3) 2) 1) (first 0 ((k, 1) ∷ (h, 2) ∷ (f, 3) ∷ []))
-unfolding first
-fault-of k h f p q r = rw (p, q, r)
+module _ {b₁ b₂ b₃ : Bool} where
+  fault-of : (k h f : Bool) → k ≡ b₁ → h ≡ b₂ → f ≡ b₃
+      → _≡_ {A = ℕ} (cond b₁ (cond b₂ (cond b₃ 0 3) 2) 1) (first 0 ((k, 1) ∷ (h, 2) ∷ (f, 3) ∷ []))
+  unfolding first
+  fault-of k h f p q r = rw (p, q, r)
+
+  pub card-code : (xs : List ℕ) → eqb (length xs) 43 ≡ b₁ → headFits 41 xs ≡ b₂ → cardFits (readCard xs) ≡ b₃
+      → cond b₁ (cond b₂ (cond b₃ 0 3) 2) 1 ≡ cardFault xs
+  unfolding cardFault
+  card-code xs p q r = fault-of (eqb (length xs) 43) (headFits 41 xs) (cardFits (readCard xs)) p q r
+
+  pub message-code : (xs : List ℕ) → eqb (length xs) 91 ≡ b₁ → headFits 89 xs ≡ b₂ → messageFits (readMessage xs) ≡ b₃
+      → cond b₁ (cond b₂ (cond b₃ 0 3) 2) 1 ≡ messageFault xs
+  unfolding messageFault
+  message-code xs p q r = fault-of (eqb (length xs) 91) (headFits 89 xs) (messageFits (readMessage xs)) p q r
+
+-- code 0: all three hold
+all-three : (k h f : Bool) → _≡_ {A = ℕ} (first 0 ((k, 1) ∷ (h, 2) ∷ (f, 3) ∷ [])) 0 → (k ≡ true) × (h ≡ true) × (f ≡ true)
+all-three k h f z =
+    let p = rung (k, 1) _ (omega arith) z in
+    let q = rung (h, 2) _ (omega arith) (p .1) in
+    (p .0, q .0, rung (f, 3) _ (omega arith) (q .1) .0)
 
 -- what a card of code 0 has
 pub record CardFine (xs : List ℕ) : Type 0 where
@@ -37,10 +58,8 @@ pub record CardFine (xs : List ℕ) : Type 0 where
 pub card-fine : (xs : List ℕ) → cardFault xs ≡ 0 → CardFine xs
 unfolding cardFault
 card-fine xs h =
-    let p₁ = rung (eqb (length xs) 43, 1) _ (omega arith) h in
-    let p₂ = rung (headFits 41 xs, 2) _ (omega arith) (p₁ .1) in
-    let p₃ = rung (cardFits (readCard xs), 3) _ (omega arith) (p₂ .1) in
-    record { long = eqb-true (length xs) 43 (p₁ .0); head = p₂ .0; fits = p₃ .0 }
+    let p = all-three (eqb (length xs) 43) (headFits 41 xs) (cardFits (readCard xs)) h in
+    record { long = eqb-true (length xs) 43 (p .0); head = p .1; fits = p .2 }
 
 -- what a message of code 0 has
 pub record MessageFine (xs : List ℕ) : Type 0 where
@@ -51,10 +70,8 @@ pub record MessageFine (xs : List ℕ) : Type 0 where
 pub message-fine : (xs : List ℕ) → messageFault xs ≡ 0 → MessageFine xs
 unfolding messageFault
 message-fine xs h =
-    let p₁ = rung (eqb (length xs) 91, 1) _ (omega arith) h in
-    let p₂ = rung (headFits 89 xs, 2) _ (omega arith) (p₁ .1) in
-    let p₃ = rung (messageFits (readMessage xs), 3) _ (omega arith) (p₂ .1) in
-    record { long = eqb-true (length xs) 91 (p₁ .0); head = p₂ .0; fits = p₃ .0 }
+    let p = all-three (eqb (length xs) 91) (headFits 89 xs) (messageFits (readMessage xs)) h in
+    record { long = eqb-true (length xs) 91 (p .0); head = p .1; fits = p .2 }
 
 -- the limits of a message, by name
 pub record MessageLimits (B d r i n : ℕ) : Type 0 where
@@ -91,27 +108,25 @@ three true true false f rest = refl
 three true true true false rest = refl
 three true true true true rest = refl
 
--- the first three rungs of a ladder as one code; t is the first rung's test, a what it asks of other buffers
-module _ (t a : Bool) (xs : List ℕ) (rest : List (Bool × ℕ)) where
-  pub card-rungs : t ≡ (a && eqb (length xs) 43)
-      → first 0 ((t, 1) ∷ (headFits 41 xs, 2) ∷ (cardFits (readCard xs), 3) ∷ rest) ≡ cond a (ifZero (cardFault xs) (first 0 rest) (cardFault xs)) 1
+-- the first three rungs of a ladder as one code: a is what the first asks of other buffers
+module _ (a : Bool) (xs : List ℕ) (rest : List (Bool × ℕ)) where
+  pub card-rungs : first 0 ((a && eqb (length xs) 43, 1) ∷ (headFits 41 xs, 2) ∷ (cardFits (readCard xs), 3) ∷ rest)
+      ≡ cond a (ifZero (cardFault xs) (first 0 rest) (cardFault xs)) 1
   unfolding cardFault
-  card-rungs e =
-      ap (λ (b : Bool). first 0 ((b, 1) ∷ (headFits 41 xs, 2) ∷ (cardFits (readCard xs), 3) ∷ rest)) e
-      ∙ three a (eqb (length xs) 43) (headFits 41 xs) (cardFits (readCard xs)) rest
+  card-rungs = three a (eqb (length xs) 43) (headFits 41 xs) (cardFits (readCard xs)) rest
 
-  pub message-rungs : t ≡ (a && eqb (length xs) 91)
-      → first 0 ((t, 1) ∷ (headFits 89 xs, 2) ∷ (messageFits (readMessage xs), 3) ∷ rest)
+  pub message-rungs : first 0 ((a && eqb (length xs) 91, 1) ∷ (headFits 89 xs, 2) ∷ (messageFits (readMessage xs), 3) ∷ rest)
       ≡ cond a (ifZero (messageFault xs) (first 0 rest) (messageFault xs)) 1
   unfolding messageFault
-  message-rungs e =
-      ap (λ (b : Bool). first 0 ((b, 1) ∷ (headFits 89 xs, 2) ∷ (messageFits (readMessage xs), 3) ∷ rest)) e
-      ∙ three a (eqb (length xs) 91) (headFits 89 xs) (messageFits (readMessage xs)) rest
+  message-rungs = three a (eqb (length xs) 91) (headFits 89 xs) (messageFits (readMessage xs)) rest
 
--- tests of other buffers, on both sides of the record's or behind it, in front of it
-pub and-swap : (a k b : Bool) → (a && k && b) ≡ (a && b && k)
-and-swap true k b = and-comm k b
-and-swap false k b = refl
+-- the first rung's test in another order: another buffer's test b behind the record's test k goes in front of it
+pub first-swap : (k b : Bool) (code : ℕ) (rest : List (Bool × ℕ)) → first 0 ((k && b, code) ∷ rest) ≡ first 0 ((b && k, code) ∷ rest)
+first-swap k b code rest = ap (λ (t : Bool). first 0 ((t, code) ∷ rest)) (and-comm k b)
+
+pub first-swap-last : (a k b : Bool) (code : ℕ) (rest : List (Bool × ℕ)) → first 0 ((a && k && b, code) ∷ rest) ≡ first 0 ((a && b && k, code) ∷ rest)
+first-swap-last a k b code rest =
+    ap (λ (t : Bool). first 0 ((t, code) ∷ rest)) (and-assoc a k b ∙ ap (λ (t : Bool). a && t) (and-comm k b) ∙ sym (and-assoc a b k))
 
 -- the ways out: another buffer's length, the record's own code n, none of the two
 module _ (a : Bool) (code rest : ℕ) {whole : ℕ} (e : whole ≡ cond a (ifZero code rest code) 1) where
@@ -127,3 +142,29 @@ module _ (a : Bool) (code rest : ℕ) {whole : ℕ} (e : whole ≡ cond a (ifZer
 
   pub rungs-passed : a ≡ true → code ≡ 0 → whole ≡ rest
   rungs-passed p z = e ∙ rw (p, z)
+
+-- in the calls: the code n of the lent card or message is the code of the call
+module _ (P : Primitives) (master card : List ℕ) (n : ℕ) (e : n ≡ cardFault card) where
+  pub change-refused : (table : List ℕ) (edit : Edit) → eqb (length master) 32 ≡ true → (n ≡ 0 → ⊥) → n ≡ changeCode P master card table edit
+  unfolding changeCode
+  change-refused table edit p h = rungs-refused (eqb (length master) 32) (cardFault card) _ (card-rungs (eqb (length master) 32) card _) n p e h
+
+  pub judge-refused : eqb (length master) 32 ≡ true → (n ≡ 0 → ⊥) → n ≡ judgeFault P master card
+  unfolding judgeFault
+  judge-refused p h = rungs-refused (eqb (length master) 32) (cardFault card) _ (card-rungs (eqb (length master) 32) card _) n p e h
+
+  pub draw-refused : (message : List ℕ) → (eqb (length master) 32 && eqb (length message) 91) ≡ true → (n ≡ 0 → ⊥) → n ≡ drawCode P master card message
+  unfolding drawCode
+  draw-refused message p h =
+      rungs-refused (eqb (length master) 32 && eqb (length message) 91) (cardFault card) _
+      (first-swap-last (eqb (length master) 32) (eqb (length card) 43) (eqb (length message) 91) 1 _
+      ∙ card-rungs (eqb (length master) 32 && eqb (length message) 91) card _)
+      n p e h
+
+pub prove-refused : (P : Primitives) (message blocks table reply : List ℕ) (n : ℕ) → n ≡ messageFault message → eqb (length reply) 110 ≡ true → (n ≡ 0 → ⊥)
+    → n ≡ proveCode P message blocks table reply
+unfolding proveCode
+prove-refused P message blocks table reply n e p h =
+    rungs-refused (eqb (length reply) 110) (messageFault message) _
+    (first-swap (eqb (length message) 91) (eqb (length reply) 110) 1 _ ∙ message-rungs (eqb (length reply) 110) message _)
+    n p e h

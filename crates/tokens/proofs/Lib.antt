@@ -1,0 +1,4 @@
+pub mod TokenKeys
+pub mod BlockLaws
+mod KeyLaws
+mod TurnLaws
