@@ -1,0 +1,128 @@
+// Changes of a file: update, delete and append, each on the card and the table that it is lent.
+// A change that is turned away leaves both. Every function equals a definition of the scheme's Calls or Table at the standard primitives. Nothing is assumed.
+ghost use mathlib.Core.Path.{_≡_};
+ghost use mathlib.Core.Bool.{true};
+ghost use mathlib.Core.List.{List, [], _∷_};
+ghost use Prim.Native.Nat.{ℕ, _+_, _*_, _-_, _≤_, _<_};
+ghost use lib.ListN.{length};
+ghost use Rattle.octets.specs.Octets.{put};
+ghost use Rattle.scheme.specs.Ladder.{first};
+ghost use Rattle.scheme.specs.Records.{recordAt};
+ghost use Rattle.scheme.specs.Calls as S;
+ghost use Rattle.scheme.specs.Table.{there, tokenIn, reseal};
+ghost use Rattle.standard.specs.Standard.{standard};
+ghost use Rattle.records.specs.Fields.{cardOf};
+ghost use Rattle.tokens.specs.Keyed.{Keyed, changeOf};
+ghost use Rattle.changes.specs.Edits.{editOf, lateChecks, Ready, resealedUnder};
+
+// What a change does to its block.
+pub enum Kind {
+    Update,
+    Delete,
+    Append,
+}
+
+// Whether the blocks handed over have the file's block size: old and new of an update, the old of a deletion, the new of an append.
+fn handed_fits(c: records::Card, kind: Kind, old: &[u8], new: &[u8]) -> bool
+    ensures { λ r. ⌜ (m : ℕ) → r ≡ S.handedFits (cardOf c) (editOf kind m (now (old .entry)) (now (new .entry))) ⌝ }
+{
+    let size = c.block_bytes;
+    match kind {
+        Kind::Update => (old.len() as u64 == size) & (new.len() as u64 == size),
+        Kind::Delete => old.len() as u64 == size,
+        Kind::Append => new.len() as u64 == size,
+    }
+}
+
+// 4 for a block number that is 0 or above n, 5 for an append with n at its most, 0 for neither.
+fn place_code(c: records::Card, kind: Kind, m: u64) -> u64
+    ensures { λ r. ⌜ (old new : List ℕ) → r ≡ first 0 (S.placeRung (cardOf c) (editOf kind m old new) ∷ []) ⌝ }
+{
+    match kind {
+        Kind::Append => {
+            if c.blocks < 16777216 {
+                return 0;
+            }
+            5
+        }
+        _ => {
+            if (1 <= m) & (m <= c.blocks) {
+                return 0;
+            }
+            4
+        }
+    }
+}
+
+// The block that is changed.
+fn place_of(c: records::Card, kind: Kind, m: u64) -> counts::Block
+    requires { ⌜ c .blocks ≤ 16777216 ⌝ }
+    ensures { λ r. ⌜ (old new : List ℕ) → r .0 ≡ S.placeOf (cardOf c) (editOf kind m old new) ⌝ }
+{
+    match kind {
+        Kind::Append => counts::Block(c.blocks + 1),
+        _ => counts::Block(m),
+    }
+}
+
+// The number of blocks after a change.
+fn blocks_after(c: records::Card, kind: Kind) -> u64
+    requires { ⌜ c .blocks ≤ 16777216 ⌝ }
+    ensures { λ r. ⌜ (m : ℕ) (old new : List ℕ) → r ≡ S.blocksAfter (cardOf c) (editOf kind m old new) ⌝ }
+{
+    match kind {
+        Kind::Append => c.blocks + 1,
+        _ => c.blocks,
+    }
+}
+
+// The card with another number of blocks, at the next counter.
+fn card_after(c: records::Card, blocks: u64) -> records::Card
+    requires { ⌜ c .counter < 4294967295 ⌝ }
+    ensures { λ r. ⌜ cardOf r ≡ S.changedCard (cardOf c) blocks ⌝ }
+{
+    let mut after = c;
+    after.blocks = blocks;
+    after.counter = c.counter + 1;
+    after
+}
+
+// The code of a change by the rungs behind the card's own: sizes, an open token, the block's number, the counter. Writes nothing.
+fn late(c: records::Card, table: &[u8], kind: Kind, m: u64, old: &[u8], new: &[u8]) -> u64
+    requires { ⌜ c .tokens ≤ 65536 ⌝ }
+    ensures { λ r. ⌜ r ≡ first 0 (lateChecks (cardOf c) (now (table .entry)) (editOf kind m (now (old .entry)) (now (new .entry)))) ⌝ }
+{
+    if table.len() as u64 != c.tokens * 63 {
+        return 1;
+    }
+    let handed = handed_fits(c, kind, old, new);
+    if !handed {
+        return 1;
+    }
+    if c.open_token != 0 {
+        return 8;
+    }
+    let place = place_code(c, kind, m);
+    if place != 0 {
+        return place;
+    }
+    if c.counter < 4294967295 {
+        return 0;
+    }
+    10
+}
+
+// The code of a change by everything but the table's records. Writes nothing.
+fn check(master: &[u8], card: &[u8], table: &[u8], kind: Kind, m: u64, old: &[u8], new: &[u8]) -> u64
+    ensures { λ r. ⌜ r ≡ first 0 (S.changeChecks standard (now (master .entry)) (now (card .entry)) (now (table .entry)) (editOf kind m (now (old .entry)) (now (new .entry)))) ⌝ }
+{
+    if master.len() != 32 {
+        return 1;
+    }
+    let fault = records::check_card(card);
+    if fault != 0 {
+        return fault;
+    }
+    let c = records::read_card(card);
+    late(c, table, kind, m, old, new)
+}
