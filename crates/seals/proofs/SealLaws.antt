@@ -2,7 +2,8 @@
 --   part-part                        a part of a part
 --   put-over                         a part put over another at the same place
 --   record-part                      a part of record i, as a part of the table
---   fits-is, opens-is, opens-not     what the checks of a record say of the token in it
+--   opens-is, opens-not              what the checks of a record say of the token in it
+--   fits-head, fits-counter, fits-all   head, counter and number tested in turn
 --   token-is                         the token of a record that opens, deciphered
 --   sealed-is                        the clear bytes, the token and the seal put in place one after the other
 use Prim.Native.Nat.{ℕ, zero, suc, _+_, _*_, _-_, _≤_, _<_}
@@ -137,3 +138,16 @@ sealed-is key x t t1 t2 t3 ctr i lx inside e1 e2 e3 =
     ∙ put-over (a + 15) x w t1 (omega arith) (omega arith)
     ∙ ap₂ (λ (n : ℕ) (u : List ℕ). put (a + n) w u) (sym lc) e1
     ∙ put-put a (clearBytes ctr i) w t (omega arith)
+
+-- head, counter and number tested in turn
+module _ (r : List ℕ) {h : Bool} (ctr i : ℕ) (eh : h ≡ headFits 61 r) where
+  pub fits-head : h ≡ false → false ≡ (headFits 61 r && eqb (ofBe (part 3 8 r)) ctr && eqb (ofBe (part 11 4 r)) i)
+  fits-head p = rw (sym eh ∙ p)
+
+  module _ {n : ℕ} (taken : h ≡ true) (en : n ≡ ofBe (part 3 8 r)) where
+    pub fits-counter : eqb n ctr ≡ false → false ≡ (headFits 61 r && eqb (ofBe (part 3 8 r)) ctr && eqb (ofBe (part 11 4 r)) i)
+    fits-counter p = rw (sym eh ∙ taken, sym (ap (λ (m : ℕ). eqb m ctr) en) ∙ p)
+
+    pub fits-all : (m : ℕ) → eqb n ctr ≡ true → m ≡ ofBe (part 11 4 r)
+        → eqb m i ≡ (headFits 61 r && eqb (ofBe (part 3 8 r)) ctr && eqb (ofBe (part 11 4 r)) i)
+    fits-all m p em = rw (sym eh ∙ taken, sym (ap (λ (l : ℕ). eqb l ctr) en) ∙ p, em)
