@@ -1,6 +1,5 @@
 -- The search that is left finds what the whole one does, by bad-step and bad-found.
 use borrow.Author.Needs.{needs}
-use native.Mathlib.Omega.{arith}
 use Prim.Native.Nat.{_+_, _-_, _≤_}
 use mathlib.Core.Path.{_≡_, refl, sym, _∙_}
 use Rattle.scheme.specs.Table.{firstBad}
