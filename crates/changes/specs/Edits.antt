@@ -1,7 +1,7 @@
 -- A change as the code hands it over, and what its parts ask for and write. Assumes nothing.
 --   editOf kind m old new              the scheme's edit: a deletion has no new block, an append no number and no old block
 --   lateChecks c table edit            the rungs of a change behind those of its card
---   Ready c m old new table            what resealing asks for
+--   Ready key c m table                what resealing asks for
 --   resealedUnder keys c m ch i rec    record i after a change, under the keys of a call
 use Prim.Native.Nat.{ℕ, _+_, _*_, _-_, _^_, _≤_, _<_}
 use mathlib.Core.Bool.{Bool, _&&_}
@@ -36,7 +36,7 @@ lateChecks c table edit =
     ∷ []
 
 -- the table of limits, as far as the code asks for it, and "Every unused record .. must open" under K
-pub record Ready (key : List ℕ) (c : Card) (m : ℕ) (old new table : List ℕ) : Type 0 where
+pub record Ready (key : List ℕ) (c : Card) (m : ℕ) (table : List ℕ) : Type 0 where
   pub rowed : 1 ≤ c .rows
   pub few-rows : c .rows ≤ 1048576
   pub few-tokens : c .tokens ≤ 65536
@@ -45,8 +45,6 @@ pub record Ready (key : List ℕ) (c : Card) (m : ℕ) (old new table : List ℕ
   pub room : c .counter < 4294967295
   pub counted : 1 ≤ m
   pub few : m < 2 ^ 32
-  pub old-short : length old ≤ 4096
-  pub new-short : length new ≤ 4096
   pub whole : length table ≡ c .tokens * 63
   pub opens : firstBad standard key (c .counter) table (c .tokens + 1 - c .next) (c .next) ≡ 0
 

@@ -3,13 +3,13 @@
 ghost use mathlib.Core.Path.{_≡_};
 ghost use mathlib.Core.Bool.{true};
 ghost use mathlib.Core.List.{List, [], _∷_};
-ghost use Prim.Native.Nat.{ℕ, _+_, _*_, _-_, _≤_, _<_};
+ghost use Prim.Native.Nat.{ℕ, _+_, _*_, _-_, _^_, _≤_, _<_};
 ghost use lib.ListN.{length};
 ghost use Rattle.octets.specs.Octets.{put};
 ghost use Rattle.scheme.specs.Ladder.{first};
 ghost use Rattle.scheme.specs.Records.{recordAt};
 ghost use Rattle.scheme.specs.Calls as S;
-ghost use Rattle.scheme.specs.Table.{there, tokenIn, reseal};
+ghost use Rattle.scheme.specs.Table as T;
 ghost use Rattle.standard.specs.Standard.{standard};
 ghost use Rattle.records.specs.Fields.{cardOf};
 ghost use Rattle.tokens.specs.Keyed.{Keyed, changeOf};
@@ -24,7 +24,7 @@ pub enum Kind {
 
 // Whether the blocks handed over have the file's block size: old and new of an update, the old of a deletion, the new of an append.
 fn handed_fits(c: records::Card, kind: Kind, old: &[u8], new: &[u8]) -> bool
-    ensures { λ r. ⌜ (m : ℕ) → r ≡ S.handedFits (cardOf c) (editOf kind m (now (old .entry)) (now (new .entry))) ⌝ }
+    ensures { λ r. ⌜ ((m : ℕ) → r ≡ S.handedFits (cardOf c) (editOf kind m (now (old .entry)) (now (new .entry)))) ⌝ }
 {
     let size = c.block_bytes;
     match kind {
@@ -36,7 +36,7 @@ fn handed_fits(c: records::Card, kind: Kind, old: &[u8], new: &[u8]) -> bool
 
 // 4 for a block number that is 0 or above n, 5 for an append with n at its most, 0 for neither.
 fn place_code(c: records::Card, kind: Kind, m: u64) -> u64
-    ensures { λ r. ⌜ (old new : List ℕ) → r ≡ first 0 (S.placeRung (cardOf c) (editOf kind m old new) ∷ []) ⌝ }
+    ensures { λ r. ⌜ ((old new : List ℕ) → r ≡ first 0 (S.placeRung (cardOf c) (editOf kind m old new) ∷ [])) ⌝ }
 {
     match kind {
         Kind::Append => {
@@ -57,7 +57,7 @@ fn place_code(c: records::Card, kind: Kind, m: u64) -> u64
 // The block that is changed.
 fn place_of(c: records::Card, kind: Kind, m: u64) -> counts::Block
     requires { ⌜ c .blocks ≤ 16777216 ⌝ }
-    ensures { λ r. ⌜ (old new : List ℕ) → r .0 ≡ S.placeOf (cardOf c) (editOf kind m old new) ⌝ }
+    ensures { λ r. ⌜ ((old new : List ℕ) → r .0 ≡ S.placeOf (cardOf c) (editOf kind m old new)) ⌝ }
 {
     match kind {
         Kind::Append => counts::Block(c.blocks + 1),
@@ -68,7 +68,7 @@ fn place_of(c: records::Card, kind: Kind, m: u64) -> counts::Block
 // The number of blocks after a change.
 fn blocks_after(c: records::Card, kind: Kind) -> u64
     requires { ⌜ c .blocks ≤ 16777216 ⌝ }
-    ensures { λ r. ⌜ (m : ℕ) (old new : List ℕ) → r ≡ S.blocksAfter (cardOf c) (editOf kind m old new) ⌝ }
+    ensures { λ r. ⌜ ((m : ℕ) (old new : List ℕ) → r ≡ S.blocksAfter (cardOf c) (editOf kind m old new)) ⌝ }
 {
     match kind {
         Kind::Append => c.blocks + 1,
