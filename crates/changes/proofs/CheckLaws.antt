@@ -4,7 +4,8 @@
 --   Early, early-has                what a change whose checks pass has
 --   Held, held                      the same of the numbers that the program reads
 --   change-early, change-bad, change-passed   the code of a change from its checks and its records
---   Left, left-early, left-bad      a change that is turned away leaves card and table
+--   left                            a change that is turned away leaves card and table
+--   bad-is, ready                   the lowest record that does not open, and what resealing asks for
 --   made                            what a change makes of card and table
 use Prim.Native.Nat.{ℕ, zero, suc, _+_, _*_, _-_, _≤_, _<_}
 use native.Mathlib.Omega.{arith}
@@ -17,14 +18,18 @@ use lib.ListN.{length}
 use Rattle.scheme.specs.Ladder.{first, ifZero}
 use Rattle.scheme.specs.Records as S
 use Rattle.scheme.specs.Calls.{Edit, update, delete, append, handedFits, placeRung, placeOf, changeOf, blocksAfter, changedCard, unusedBad, changeChecks, changeCode, changeCard, changeTable}
-use Rattle.scheme.specs.Table.{reseal}
+use Rattle.scheme.specs.Table.{firstBad, reseal}
+use Rattle.scheme.specs.Tokens.{keyK}
 use Rattle.scheme.proofs.LadderLaws.{rung, both, first-append, first-stage}
 use Rattle.scheme.proofs.LimitLaws.{Limits}
 use Rattle.standard.specs.Standard.{standard}
 use Rattle.records.specs.Fields.{cardOf, cardFault}
 use Rattle.records.specs.declared.Card.{Card}
 use Rattle.records.proofs.FaultLaws.{card-code, card-held, card-rungs, rungs-other, rungs-refused, rungs-passed}
-use Rattle.changes.specs.Edits.{lateChecks}
+use Rattle.tokens.specs.Keyed.{Keyed}
+use Rattle.tokens.specs.declared.Keys.{Keys}
+use Rattle.changes.specs.Edits.{lateChecks, Ready}
+use Rattle.changes.proofs.KindLaws.{place-fits}
 
 -- a code is at least 1
 place-code : (c : S.Card) (edit : Edit) → 1 ≤ placeRung c edit .1
@@ -214,25 +219,67 @@ module _ (master card table : List ℕ) (edit : Edit) where
     unfolding first
     change-passed e = late-code ∙ rw e
 
+  other : (n : ℕ) (a b : List ℕ) → (n ≡ 0 → ⊥) → ifZero n a b ≡ b
+  other zero a b s = absurd (s refl)
+  other (suc n) a b s = refl
+
   -- a change that is turned away leaves card and table
   pub left : (n : ℕ) → n ≡ changeCode standard master card table edit → (n ≡ 0 → ⊥)
-      → (n ≡ changeCode standard master card table edit) × (card ≡ changeCard standard master card table edit) × (table ≡ changeTable standard master card table edit)
+      → (n ≡ changeCode standard master card table edit) × ((card ≡ changeCard standard master card table edit) × (table ≡ changeTable standard master card table edit))
   unfolding changeCard changeTable
   left n e s =
-      let c = S.readCard card in (
+      let c = S.readCard card in
+      let code = changeCode standard master card table edit in (
         e,
-        sym (other (changeCode standard master card table edit) _ card (λ z. s (e ∙ z))),
-        sym (other (changeCode standard master card table edit) _ table (λ z. s (e ∙ z))),
+        (sym (other code (S.cardBytes (changedCard c (blocksAfter c edit))) card (λ z. s (e ∙ z))),
+        sym (other code (reseal standard master c (placeOf c edit) (changeOf c edit) (c .t + 1 - c .next) (c .next) table) table (λ z. s (e ∙ z)))),
       )
-    where
-      other : (m : ℕ) (a b : List ℕ) → (m ≡ 0 → ⊥) → ifZero m a b ≡ b
-      other zero a b s = absurd (s refl)
-      other (suc m) a b s = refl
 
-  -- what a change makes of them
-  pub made : (c : S.Card) → c ≡ S.readCard card → changeCode standard master card table edit ≡ 0
-      → (0 ≡ changeCode standard master card table edit)
-      × (S.cardBytes (changedCard c (blocksAfter c edit)) ≡ changeCard standard master card table edit)
-      × (reseal standard master c (placeOf c edit) (changeOf c edit) (c .t + 1 - c .next) (c .next) table ≡ changeTable standard master card table edit)
-  unfolding changeCard changeTable
-  made c e z = (sym z, rw (e, z), rw (e, z))
+  -- the lowest record that does not open, under the keys of the call
+  pub bad-is : {keys : Keys} (c : Card) (bad : ℕ) → Keyed master (c .id) keys → cardOf c ≡ S.readCard card
+      → bad ≡ firstBad standard (keys .k) (c .counter) table (c .tokens + 1 - c .next) (c .next)
+      → bad ≡ unusedBad standard master (S.readCard card) table
+  unfolding unusedBad cardOf
+  bad-is c bad k e h =
+      h
+      ∙ ap (λ (key : List ℕ). firstBad standard key (c .counter) table (c .tokens + 1 - c .next) (c .next)) (k .sealing)
+      ∙ ap (λ (x : S.Card). firstBad standard (keyK standard master (x .id)) (x .ctr) table (x .t + 1 - x .next) (x .next)) e
+
+  -- what a change makes of card and table
+  pub made : (c after : Card) (blocks place : ℕ) (card′ table′ : List ℕ) → cardOf c ≡ S.readCard card → changeCode standard master card table edit ≡ 0
+      → card′ ≡ S.cardBytes (cardOf after) → cardOf after ≡ changedCard (cardOf c) blocks → blocks ≡ blocksAfter (cardOf c) edit
+      → place ≡ placeOf (cardOf c) edit
+      → table′ ≡ reseal standard master (cardOf c) place (changeOf (cardOf c) edit) (c .tokens + 1 - c .next) (c .next) table
+      → (0 ≡ changeCode standard master card table edit) × ((card′ ≡ changeCard standard master card table edit) × (table′ ≡ changeTable standard master card table edit))
+  unfolding changeCard changeTable cardOf
+  made c after blocks place card′ table′ e z f g h p q = (
+    sym z,
+    (f ∙ ap S.cardBytes g ∙ ap (λ (n : ℕ). S.cardBytes (changedCard (cardOf c) n)) h
+    ∙ ap (λ (x : S.Card). S.cardBytes (changedCard x (blocksAfter x edit))) e
+    ∙ zeroed (S.cardBytes (changedCard (S.readCard card) (blocksAfter (S.readCard card) edit))) card z,
+    q ∙ ap (λ (n : ℕ). reseal standard master (cardOf c) n (changeOf (cardOf c) edit) (c .tokens + 1 - c .next) (c .next) table) p
+    ∙ ap (λ (x : S.Card). reseal standard master x (placeOf x edit) (changeOf x edit) (x .t + 1 - x .next) (x .next) table) e
+    ∙ zeroed (reseal standard master (S.readCard card) (placeOf (S.readCard card) edit) (changeOf (S.readCard card) edit) ((S.readCard card) .t + 1 - (S.readCard card) .next) ((S.readCard card) .next) table) table z),
+  )
+    where
+      zeroed : {n : ℕ} (a b : List ℕ) → n ≡ 0 → a ≡ ifZero n a b
+      zeroed a b y = rw y
+
+-- what resealing asks for, once every unused record is known to open
+pub ready : {edit : Edit} (key : List ℕ) (c : Card) (table : List ℕ) (place bad : ℕ) → Held c table edit → place ≡ placeOf (cardOf c) edit
+    → bad ≡ firstBad standard key (c .counter) table (c .tokens + 1 - c .next) (c .next) → bad ≡ 0 → Ready key c place table
+ready {edit} key c table place bad h e f z =
+    let l = h .limits in
+    let p = place-fits c edit (h .placed) (l .nmost) in
+    record {
+      rowed = l .shape .d1;
+      few-rows = l .shape .dmost;
+      few-tokens = l .tmost;
+      next1 = l .next1;
+      nextmost = l .nextmost;
+      room = h .room;
+      counted = omega (arith, p .0);
+      few = omega (arith, p .1);
+      whole = h .whole;
+      opens = sym f ∙ z;
+    }

@@ -1,8 +1,10 @@
 -- Laws of records resealed one after the other. Assumes nothing.
 --   under-keyed      under the keys of a call a record becomes the scheme's resealedRecord
+--   one-record       a record opened, changed and sealed
 --   bad-most         the lowest record that does not open is none of those behind the last
 --   bad-opens        where all records from i on open, record i does
 --   bad-later        and where record i is written anew, those behind it still do
+--   turn             both of a table whose record i is resealed
 --   reseal-more      the work that is left after record i
 use Prim.Native.Nat.{ℕ, zero, suc, _+_, _*_, _-_, _≤_, _<_}
 use native.Mathlib.Omega.{arith}
@@ -12,13 +14,14 @@ use mathlib.Core.Bool.{Bool, true, false, cond}
 use lib.ListN.{length, take, drop}
 use lib.Seq.{drop-drop}
 use Rattle.octets.specs.Octets.{put}
-use Rattle.octets.proofs.PartLaws.{drop-put}
+use Rattle.octets.proofs.PartLaws.{length-put, drop-put}
 use Rattle.scheme.specs.Records.{Card, recordAt}
-use Rattle.scheme.specs.Table.{there, value, tokenIn, firstBad, resealedRecord, reseal}
-use Rattle.scheme.specs.Tokens.{Change}
+use Rattle.scheme.specs.Table.{there, value, tokenIn, firstBad, sealedRecord, resealedRecord, reseal}
+use Rattle.scheme.specs.Tokens.{Change, changedDigest}
+use Rattle.scheme.proofs.RecordLaws.{record-long}
 use Rattle.scheme.proofs.TableLaws.{bad-step, bad-found, reseal-step}
 use Rattle.standard.specs.Standard.{standard}
-use Rattle.tokens.specs.Keyed.{Keyed}
+use Rattle.tokens.specs.Keyed.{Keyed, tokenKey}
 use Rattle.tokens.specs.declared.Keys.{Keys}
 use Rattle.tokens.proofs.TokenKeys.{draw-key, hash-key}
 use Rattle.changes.specs.Edits.{resealedUnder}
@@ -27,6 +30,21 @@ pub under-keyed : {master : List ℕ} {keys : Keys} (c : Card) (m : ℕ) (ch : C
     → resealedUnder keys c m ch i rec ≡ resealedRecord standard master c m ch i rec
 unfolding resealedUnder resealedRecord
 under-keyed c m ch i rec h = rw (draw-key h i, hash-key h i, h .sealing)
+
+-- one record: x is the token in it, y the token changed, after the table with y sealed
+pub one-record : (keys : Keys) (c : Card) (m : ℕ) (ch : Change) (i : ℕ) (table after x y : List ℕ)
+    → x ≡ value (tokenIn standard (keys .k) (c .ctr) i (recordAt i table))
+    → y ≡ changedDigest standard (tokenKey (keys .w) i) (tokenKey (keys .z) i) (c .d) (c .r) m ch x
+    → length y ≡ 32
+    → after ≡ put ((i - 1) * 63) (sealedRecord standard (keys .k) (c .ctr + 1) i y) table
+    → (length (resealedUnder keys c m ch i (recordAt i table)) ≡ 63) × (after ≡ put ((i - 1) * 63) (resealedUnder keys c m ch i (recordAt i table)) table)
+unfolding resealedUnder
+one-record keys c m ch i table after x y e f l g =
+    let digest = changedDigest standard (tokenKey (keys .w) i) (tokenKey (keys .z) i) (c .d) (c .r) m ch in
+    let same : y ≡ digest (value (tokenIn standard (keys .k) (c .ctr) i (recordAt i table))) = f ∙ ap digest e in (
+      ap (λ (z : List ℕ). length (sealedRecord standard (keys .k) (c .ctr + 1) i z)) (sym same) ∙ record-long standard (keys .k) (c .ctr + 1) i y l,
+      g ∙ ap (λ (z : List ℕ). put ((i - 1) * 63) (sealedRecord standard (keys .k) (c .ctr + 1) i z) table) same,
+    )
 
 pub bad-most : (key : List ℕ) (ctr : ℕ) (table : List ℕ) (m i : ℕ) → firstBad standard key ctr table m i ≤ i + m
 unfolding firstBad
@@ -70,6 +88,19 @@ module _ (key : List ℕ) (ctr t i : ℕ) (table : List ℕ) (l : 1 ≤ i) (h : 
 
     pub bad-later : firstBad standard key ctr (put ((i - 1) * 63) rec table) (t + 1 - (i + 1)) (i + 1) ≡ 0
     bad-later = others (t + 1 - (i + 1)) (i + 1) (omega arith) ∙ sym (bad-step standard key ctr t i table h bad-opens) ∙ z
+
+-- a table whose record i is resealed: its length, and the records behind it
+pub turn : (keys : Keys) (c : Card) (m : ℕ) (ch : Change) (t i : ℕ) (table after : List ℕ) → 1 ≤ i → i ≤ t → length table ≡ t * 63
+    → firstBad standard (keys .k) (c .ctr) table (t + 1 - i) i ≡ 0
+    → length (resealedUnder keys c m ch i (recordAt i table)) ≡ 63
+    → after ≡ put ((i - 1) * 63) (resealedUnder keys c m ch i (recordAt i table)) table
+    → (length after ≡ t * 63) × (firstBad standard (keys .k) (c .ctr) after (t + 1 - (i + 1)) (i + 1) ≡ 0)
+turn keys c m ch t i table after l h whole z long e =
+    let rec = resealedUnder keys c m ch i (recordAt i table) in (
+      ap length e ∙ length-put ((i - 1) * 63) rec table (omega arith) ∙ whole,
+      ap (λ (x : List ℕ). firstBad standard (keys .k) (c .ctr) x (t + 1 - (i + 1)) (i + 1)) e
+      ∙ bad-later (keys .k) (c .ctr) t i table l h z rec long whole,
+    )
 
 pub reseal-more : {master : List ℕ} {keys : Keys} (c : Card) (m : ℕ) (ch : Change) (t i : ℕ) (table after : List ℕ)
     → Keyed master (c .id) keys → i ≤ t → after ≡ put ((i - 1) * 63) (resealedUnder keys c m ch i (recordAt i table)) table

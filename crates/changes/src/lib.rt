@@ -126,3 +126,110 @@ fn check(master: &[u8], card: &[u8], table: &[u8], kind: Kind, m: u64, old: &[u8
     let c = records::read_card(card);
     late(c, table, kind, m, old, new)
 }
+
+// Reseals record i, which opens: its token is opened, changed and sealed at the next counter. The other records keep their bytes.
+fn reseal_one(
+    keys: tokens::Keys,
+    c: records::Card,
+    m: counts::Block,
+    fresh: bool,
+    old: &[u8],
+    new: &[u8],
+    i: counts::Token,
+    table: &mut [u8],
+)
+    requires { ⌜ (1 ≤ c .rows) × (c .rows ≤ 1048576) × (c .counter < 4294967295) × (1 ≤ m .0) × (m .0 < 2 ^ 32) ⌝ }
+    requires { ⌜ (length (now old) ≤ 4096) × (length (now new) ≤ 4096) ⌝ }
+    requires { ⌜ (1 ≤ i .0) × (i .0 ≤ 65536) × (i .0 * 63 ≤ length (now table)) ⌝ }
+    requires { ⌜ T.there (T.tokenIn standard (keys .k) (c .counter) (i .0) (recordAt (i .0) (now table))) ≡ true ⌝ }
+    ensures { λ _. ⌜ length (resealedUnder keys (cardOf c) (m .0) (changeOf fresh (now (old .entry)) (now (new .entry))) (i .0) (recordAt (i .0) (now (table .entry)))) ≡ 63 ⌝ }
+    ensures { λ _. ⌜ now (table .exit) ≡ put ((i .0 - 1) * 63) (resealedUnder keys (cardOf c) (m .0) (changeOf fresh (now (old .entry)) (now (new .entry))) (i .0) (recordAt (i .0) (now (table .entry)))) (now (table .entry)) ⌝ }
+{
+    let k = keys.k;
+    let w = keys.w;
+    let z = keys.z;
+    let x = seals::token_in(k, c.counter, i, table);
+    let y = tokens::changed(w, z, c.rows, c.positions, m, fresh, old, new, i, x);
+    seals::seal_token(k, c.counter + 1, i, y, table);
+}
+
+// Reseals the unused records, each of which opens, covering the block or not: a block replaced, or added where `fresh` is true
+// (then `old` is not read). Spent records keep their bytes.
+fn reseal(
+    keys: tokens::Keys,
+    c: records::Card,
+    m: counts::Block,
+    fresh: bool,
+    old: &[u8],
+    new: &[u8],
+    table: &mut [u8],
+)
+    requires { ⌜ Ready (keys .k) c (m .0) (now table) ⌝ }
+    requires { ⌜ (length (now old) ≤ 4096) × (length (now new) ≤ 4096) ⌝ }
+    ensures { λ _. ⌜ ((master : List ℕ) → Keyed master (c .id) keys → now (table .exit) ≡ T.reseal standard master (cardOf c) (m .0) (changeOf fresh (now (old .entry)) (now (new .entry))) (c .tokens + 1 - c .next) (c .next) (now (table .entry))) ⌝ }
+{
+    let mut i = c.next;
+    while i <= c.tokens {
+        reseal_one(keys, c, m, fresh, old, new, counts::Token(i), table);
+        i += 1;
+    }
+}
+
+// Reseals the unused records for a change of a kind: a deleted block is zero bytes, and an added one has no old content.
+fn reseal_as(
+    keys: tokens::Keys,
+    c: records::Card,
+    kind: Kind,
+    m: counts::Block,
+    old: &[u8],
+    new: &[u8],
+    table: &mut [u8],
+)
+    requires { ⌜ Ready (keys .k) c (m .0) (now table) ⌝ }
+    requires { ⌜ ((n : ℕ) → S.handedFits (cardOf c) (editOf kind n (now old) (now new)) ≡ true) ⌝ }
+    requires { ⌜ c .«block_bytes» ≤ 4096 ⌝ }
+    ensures { λ _. ⌜ ((master : List ℕ) (n : ℕ) → Keyed master (c .id) keys → now (table .exit) ≡ T.reseal standard master (cardOf c) (m .0) (S.changeOf (cardOf c) (editOf kind n (now (old .entry)) (now (new .entry)))) (c .tokens + 1 - c .next) (c .next) (now (table .entry))) ⌝ }
+{
+    match kind {
+        Kind::Update => reseal(keys, c, m, false, old, new, table),
+        Kind::Delete => {
+            let zeros = [0u8; 4096];
+            let size = c.block_bytes as usize;
+            reseal(keys, c, m, false, old, &zeros[..size], table);
+        }
+        Kind::Append => reseal(keys, c, m, true, new, new, table),
+    }
+}
+
+// A change of any kind: the number returned, the card and the table. Nothing is written until every unused record is known to open.
+pub fn change(
+    master: &[u8],
+    card: &mut [u8],
+    table: &mut [u8],
+    kind: Kind,
+    m: u64,
+    old: &[u8],
+    new: &[u8],
+) -> u64
+    ensures { λ r. ⌜ r ≡ S.changeCode standard (now (master .entry)) (now (card .entry)) (now (table .entry)) (editOf kind m (now (old .entry)) (now (new .entry))) ⌝ }
+    ensures { λ r. ⌜ now (card .exit) ≡ S.changeCard standard (now (master .entry)) (now (card .entry)) (now (table .entry)) (editOf kind m (now (old .entry)) (now (new .entry))) ⌝ }
+    ensures { λ r. ⌜ now (table .exit) ≡ S.changeTable standard (now (master .entry)) (now (card .entry)) (now (table .entry)) (editOf kind m (now (old .entry)) (now (new .entry))) ⌝ }
+{
+    let code = check(master, card, table, kind, m, old, new);
+    if code != 0 {
+        return code;
+    }
+    let c = records::read_card(card);
+    let id = c.id;
+    let keys = tokens::file_keys(master, id);
+    let k = keys.k;
+    let bad = seals::first_bad(k, c.counter, c.tokens, c.next, table);
+    if bad != 0 {
+        return 7 + 256 * bad;
+    }
+    let place = place_of(c, kind, m);
+    reseal_as(keys, c, kind, place, old, new, table);
+    let blocks = blocks_after(c, kind);
+    records::write_card(card, card_after(c, blocks));
+    0
+}
