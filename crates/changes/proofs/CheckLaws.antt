@@ -130,8 +130,8 @@ module _ (master card table : List ℕ) (edit : Edit) where
         q
         ∙ ap (λ (x : S.Card). first 0 (lateChecks x table edit)) e
         ∙ sym (rungs-passed (eqb (length master) 32) (cardFault card) (first 0 (lateChecks (S.readCard card) table edit))
-          (card-rungs (eqb (length master) 32) card (lateChecks (S.readCard card) table edit))
-          (eq-eqb (length master) 32 l) z)
+        (card-rungs (eqb (length master) 32) card (lateChecks (S.readCard card) table edit))
+        (eq-eqb (length master) 32 l) z)
 
 -- what a change whose checks pass has
 pub record Early (master card table : List ℕ) (edit : Edit) : Type 0 where
@@ -190,14 +190,14 @@ held {master} {card} {table} {edit} c e h =
 module _ (master card table : List ℕ) (edit : Edit) where
   whole-code : changeCode standard master card table edit
       ≡ ifZero (first 0 (changeChecks standard master card table edit))
-        (first 0 ((eqb (unusedBad standard master (S.readCard card) table) 0, 7 + 256 * unusedBad standard master (S.readCard card) table) ∷ []))
-        (first 0 (changeChecks standard master card table edit))
+      (first 0 ((eqb (unusedBad standard master (S.readCard card) table) 0, 7 + 256 * unusedBad standard master (S.readCard card) table) ∷ []))
+      (first 0 (changeChecks standard master card table edit))
   unfolding changeCode
   whole-code =
       let bad = unusedBad standard master (S.readCard card) table in
       first-append 0 (changeChecks standard master card table edit) ((eqb bad 0, 7 + 256 * bad) ∷ [])
       ∙ first-stage (first 0 ((eqb bad 0, 7 + 256 * bad) ∷ [])) (changeChecks standard master card table edit)
-        (omega arith, (omega arith, (omega arith, (omega arith, (omega arith, (place-code (S.readCard card) edit, (omega arith, tt)))))))
+      (omega arith, (omega arith, (omega arith, (omega arith, (omega arith, (place-code (S.readCard card) edit, (omega arith, tt)))))))
 
   own : (n rest : ℕ) → (n ≡ 0 → ⊥) → ifZero n rest n ≡ n
   own zero rest s = absurd (s refl)
@@ -231,8 +231,10 @@ module _ (master card table : List ℕ) (edit : Edit) where
       let c = S.readCard card in
       let code = changeCode standard master card table edit in (
         e,
-        (sym (other code (S.cardBytes (changedCard c (blocksAfter c edit))) card (λ z. s (e ∙ z))),
-        sym (other code (reseal standard master c (placeOf c edit) (changeOf c edit) (c .t + 1 - c .next) (c .next) table) table (λ z. s (e ∙ z)))),
+        (
+          sym (other code (S.cardBytes (changedCard c (blocksAfter c edit))) card (λ z. s (e ∙ z))),
+          sym (other code (reseal standard master c (placeOf c edit) (changeOf c edit) (c .t + 1 - c .next) (c .next) table) table (λ z. s (e ∙ z))),
+        ),
       )
 
   -- the lowest record that does not open, under the keys of the call
@@ -254,12 +256,14 @@ module _ (master card table : List ℕ) (edit : Edit) where
   unfolding changeCard changeTable cardOf
   made c after blocks place card′ table′ e z f g h p q = (
     sym z,
-    (f ∙ ap S.cardBytes g ∙ ap (λ (n : ℕ). S.cardBytes (changedCard (cardOf c) n)) h
-    ∙ ap (λ (x : S.Card). S.cardBytes (changedCard x (blocksAfter x edit))) e
-    ∙ zeroed (S.cardBytes (changedCard (S.readCard card) (blocksAfter (S.readCard card) edit))) card z,
-    q ∙ ap (λ (n : ℕ). reseal standard master (cardOf c) n (changeOf (cardOf c) edit) (c .tokens + 1 - c .next) (c .next) table) p
-    ∙ ap (λ (x : S.Card). reseal standard master x (placeOf x edit) (changeOf x edit) (x .t + 1 - x .next) (x .next) table) e
-    ∙ zeroed (reseal standard master (S.readCard card) (placeOf (S.readCard card) edit) (changeOf (S.readCard card) edit) ((S.readCard card) .t + 1 - (S.readCard card) .next) ((S.readCard card) .next) table) table z),
+    (
+      f ∙ ap S.cardBytes g ∙ ap (λ (n : ℕ). S.cardBytes (changedCard (cardOf c) n)) h
+          ∙ ap (λ (x : S.Card). S.cardBytes (changedCard x (blocksAfter x edit))) e
+          ∙ zeroed (S.cardBytes (changedCard (S.readCard card) (blocksAfter (S.readCard card) edit))) card z,
+      q ∙ ap (λ (n : ℕ). reseal standard master (cardOf c) n (changeOf (cardOf c) edit) (c .tokens + 1 - c .next) (c .next) table) p
+          ∙ ap (λ (x : S.Card). reseal standard master x (placeOf x edit) (changeOf x edit) (x .t + 1 - x .next) (x .next) table) e
+          ∙ zeroed (reseal standard master (S.readCard card) (placeOf (S.readCard card) edit) (changeOf (S.readCard card) edit) ((S.readCard card) .t + 1 - (S.readCard card) .next) ((S.readCard card) .next) table) table z,
+    ),
   )
     where
       zeroed : {n : ℕ} (a b : List ℕ) → n ≡ 0 → a ≡ ifZero n a b

@@ -113,7 +113,15 @@ fn late(c: records::Card, table: &[u8], kind: Kind, m: u64, old: &[u8], new: &[u
 }
 
 // The code of a change by everything but the table's records. Writes nothing.
-fn check(master: &[u8], card: &[u8], table: &[u8], kind: Kind, m: u64, old: &[u8], new: &[u8]) -> u64
+fn check(
+    master: &[u8],
+    card: &[u8],
+    table: &[u8],
+    kind: Kind,
+    m: u64,
+    old: &[u8],
+    new: &[u8],
+) -> u64
     ensures { λ r. ⌜ r ≡ first 0 (S.changeChecks standard (now (master .entry)) (now (card .entry)) (now (table .entry)) (editOf kind m (now (old .entry)) (now (new .entry)))) ⌝ }
 {
     if master.len() != 32 {

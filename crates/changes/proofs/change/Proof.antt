@@ -89,9 +89,9 @@ reseal-as-requires c κs =
     let r = c .before .before .before .before .before .before .before .before .read-card .result in
     let h = holds (c .before .before .before .before .before .before .before .before) in (
       ready (c .before .before .before .before .before .before .file-keys .result .k) r (a .table .now) (c .before .place-of .result .0) (c .before .before .before .first-bad .result) h
-      (c .before .place-of .ensures (a .old .now) (a .new .now))
-      (c .before .before .before .first-bad .ensures)
-      (c .before .before .if2 .left),
+          (c .before .place-of .ensures (a .old .now) (a .new .now))
+          (c .before .before .before .first-bad .ensures)
+          (c .before .before .if2 .left),
       ((λ n. handed-any (cardOf r) (a .kind) (a .m) n (a .old .now) (a .new .now) (h .handed)), h .limits .shape .Bmost),
     )
 

@@ -21,8 +21,8 @@ Inv-loop keys c m fresh old new table₀ i₀ table i =
     × (length table ≡ c .tokens * 63)
     × (firstBad standard (keys .k) (c .counter) table (c .tokens + 1 - i) i ≡ 0)
     × ((master : List ℕ) → Keyed master (c .id) keys
-      → reseal standard master (cardOf c) (m .0) (changeOf fresh old new) (c .tokens + 1 - i) i table
-      ≡ reseal standard master (cardOf c) (m .0) (changeOf fresh old new) (c .tokens + 1 - c .next) (c .next) table₀)
+    → reseal standard master (cardOf c) (m .0) (changeOf fresh old new) (c .tokens + 1 - i) i table
+    ≡ reseal standard master (cardOf c) (m .0) (changeOf fresh old new) (c .tokens + 1 - c .next) (c .next) table₀)
 
 abbrev μ-loop : tie.MeasureT-loop
 μ-loop keys c m fresh old new table₀ i₀ table i = c .tokens + 1 - i

@@ -34,8 +34,10 @@ reseal-requires-2 c κs =
     let start = c .before .before .before .before .before .before .before in
     let a = start .args in (
       start .pre .0,
-      (delete-short (a .c) (a .kind) 0 (a .old .now) (a .new .now) (start .pre .1 .0 0) (start .pre .1 .1) (c .before .before .enum-told2 .given .1),
-      omega (arith, zeros-long (a .c .«block_bytes») 4096 (start .pre .1 .1), start .pre .1 .1)),
+      (
+        delete-short (a .c) (a .kind) 0 (a .old .now) (a .new .now) (start .pre .1 .0 0) (start .pre .1 .1) (c .before .before .enum-told2 .given .1),
+        omega (arith, zeros-long (a .c .«block_bytes») 4096 (start .pre .1 .1), start .pre .1 .1),
+      ),
     )
 
 enum-told-3 : tie.Need-enum-told-3
