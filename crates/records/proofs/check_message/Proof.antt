@@ -1,27 +1,27 @@
--- A code from its three tests, by fault-of.
+-- A code from its three tests, by message-code.
 use mathlib.Core.Path.{refl, sym, ap, _∙_}
 use borrow.Author.Tests.{eq-eqb, ne-eqb, not-true, not-false}
-use lib.Dec.{eqb}
 use lib.ListN.{length}
-use Rattle.scheme.specs.Records.{headFits, readMessage, messageFits}
-use Rattle.records.specs.Fields.{messageFault}
-use Rattle.records.proofs.FaultLaws.{fault-of}
+use Rattle.scheme.specs.Records.{messageFits}
+use Rattle.records.proofs.FaultLaws.{message-code}
 use borrow.Author.Needs.{needs}
 use Rattle.records.proofs.check_message.Statement.{statement}
 use Rattle.records.proofs.check_message.Tie as tie
 
 returns : tie.Need-returns
-unfolding messageFault
 returns c =
-    fault-of (eqb (length (c .before .before .args .s .now)) 91) (headFits 89 (c .before .before .args .s .now)) (messageFits (readMessage (c .before .before .args .s .now))) (ne-eqb (length (c .before .before .args .s .now)) 91 (c .if1 .taken)) refl refl
+    let start = c .before .before in
+    let xs = start .args .s .now in
+    message-code xs (ne-eqb (length xs) 91 (c .if1 .taken)) refl refl
 
 head-fits-requires : tie.Need-head-fits-requires
 head-fits-requires c κs = search needs
 
 returns-2 : tie.Need-returns-2
-unfolding messageFault
 returns-2 c =
-    fault-of (eqb (length (c .before .before .before .before .args .s .now)) 91) (headFits 89 (c .before .before .before .before .args .s .now)) (messageFits (readMessage (c .before .before .before .before .args .s .now))) (eq-eqb (length (c .before .before .before .before .args .s .now)) 91 (c .before .before .if1 .left)) (sym (c .before .head-fits .ensures) ∙ not-true _ (c .if2 .taken)) refl
+    let start = c .before .before .before .before in
+    let xs = start .args .s .now in
+    message-code xs (eq-eqb (length xs) 91 (c .before .before .if1 .left)) (sym (c .before .head-fits .ensures) ∙ not-true _ (c .if2 .taken)) refl
 
 read-message-requires : tie.Need-read-message-requires
 read-message-requires c κs = search needs
@@ -30,15 +30,17 @@ message-fits-requires : tie.Need-message-fits-requires
 message-fits-requires c κs = search needs
 
 returns-3 : tie.Need-returns-3
-unfolding messageFault
 returns-3 c =
-    fault-of (eqb (length (c .before .before .before .before .before .before .before .args .s .now)) 91) (headFits 89 (c .before .before .before .before .before .before .before .args .s .now)) (messageFits (readMessage (c .before .before .before .before .before .before .before .args .s .now))) (eq-eqb (length (c .before .before .before .before .before .before .before .args .s .now)) 91 (c .before .before .before .before .before .if1 .left)) (sym (c .before .before .before .before .head-fits .ensures) ∙ not-false _ (c .before .before .before .if2 .left))
+    let start = c .before .before .before .before .before .before .before in
+    let xs = start .args .s .now in
+    message-code xs (eq-eqb (length xs) 91 (c .before .before .before .before .before .if1 .left)) (sym (c .before .before .before .before .head-fits .ensures) ∙ not-false _ (c .before .before .before .if2 .left))
     (sym (c .before .message-fits .ensures ∙ ap messageFits (c .before .before .read-message .ensures)) ∙ not-true _ (c .if3 .taken))
 
 returns-4 : tie.Need-returns-4
-unfolding messageFault
 returns-4 c =
-    fault-of (eqb (length (c .before .before .before .before .before .before .before .args .s .now)) 91) (headFits 89 (c .before .before .before .before .before .before .before .args .s .now)) (messageFits (readMessage (c .before .before .before .before .before .before .before .args .s .now))) (eq-eqb (length (c .before .before .before .before .before .before .before .args .s .now)) 91 (c .before .before .before .before .before .if1 .left)) (sym (c .before .before .before .before .head-fits .ensures) ∙ not-false _ (c .before .before .before .if2 .left))
+    let start = c .before .before .before .before .before .before .before in
+    let xs = start .args .s .now in
+    message-code xs (eq-eqb (length xs) 91 (c .before .before .before .before .before .if1 .left)) (sym (c .before .before .before .before .head-fits .ensures) ∙ not-false _ (c .before .before .before .if2 .left))
     (sym (c .before .message-fits .ensures ∙ ap messageFits (c .before .before .read-message .ensures)) ∙ not-false _ (c .if3 .left))
 
 pub check-message-spec : {M : Type 1} → statement M
