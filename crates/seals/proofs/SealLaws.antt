@@ -2,21 +2,22 @@
 --   part-part                        a part of a part
 --   put-over                         a part put over another at the same place
 --   record-part                      a part of record i, as a part of the table
---   fits-is, opens-is, opens-not     what the checks of a record say of the token in it
+--   opens-is, opens-not              what the checks of a record say of the token in it
+--   fits-head, fits-counter, fits-all   head, counter and number tested in turn
 --   token-is                         the token of a record that opens, deciphered
 --   sealed-is                        the clear bytes, the token and the seal put in place one after the other
-use Prim.Native.Nat.{ℕ, zero, suc, _+_, _*_, _-_, _≤_, _<_}
+use Prim.Native.Nat.{ℕ, zero, suc, _+_, _*_, _-_, _≤_}
 use native.Mathlib.Omega.{arith}
 use mathlib.Core.Path.{_≡_, refl, sym, ap, ap₂, _∙_}
 use mathlib.Core.Bool.{Bool, true, false, cond, _&&_}
-use mathlib.Core.List.{List, [], _∷_, _++_}
-use mathlib.Core.Option.{Option, none, some}
-use lib.ListN.{length, getD, take, drop, length-append, length-drop}
+use mathlib.Core.List.{List, [], _∷_, _++_, append-nil}
+use mathlib.Core.Option.{none, some}
+use lib.ListN.{length, take, drop, replicate, length-drop}
 use native.Mathlib.Nat.{suc-add, add-zero}
 use lib.Seq.{take-take, take-all, take-at, drop-at, drop-drop, drop-append-add, length-take-le}
 use lib.Dec.{eqb}
 use Rattle.octets.specs.Octets.{le, be, ofBe, part, put}
-use Rattle.octets.proofs.PartLaws.{length-part, part-add, part-put, length-put, put-put}
+use Rattle.octets.proofs.PartLaws.{length-part, part-put, length-put, put-put}
 use Rattle.chacha20.specs.ChaCha20.{cipher, keyWords}
 use Rattle.aead.specs.Aead.{opens, opened, seal}
 use Rattle.aead.proofs.Sealing.{opened-part, length-seal-32}
@@ -137,3 +138,57 @@ sealed-is key x t t1 t2 t3 ctr i lx inside e1 e2 e3 =
     ∙ put-over (a + 15) x w t1 (omega arith) (omega arith)
     ∙ ap₂ (λ (n : ℕ) (u : List ℕ). put (a + n) w u) (sym lc) e1
     ∙ put-put a (clearBytes ctr i) w t (omega arith)
+
+-- head, counter and number tested in turn
+module _ (r : List ℕ) {h : Bool} (ctr i : ℕ) (eh : h ≡ headFits 61 r) where
+  pub fits-head : h ≡ false → false ≡ (headFits 61 r && eqb (ofBe (part 3 8 r)) ctr && eqb (ofBe (part 11 4 r)) i)
+  fits-head p = rw (sym eh ∙ p)
+
+  module _ {n : ℕ} (taken : h ≡ true) (en : n ≡ ofBe (part 3 8 r)) where
+    pub fits-counter : eqb n ctr ≡ false → false ≡ (headFits 61 r && eqb (ofBe (part 3 8 r)) ctr && eqb (ofBe (part 11 4 r)) i)
+    fits-counter p = rw (sym eh ∙ taken, sym (ap (λ (m : ℕ). eqb m ctr) en) ∙ p)
+
+    pub fits-all : (m : ℕ) → eqb n ctr ≡ true → m ≡ ofBe (part 11 4 r)
+        → eqb m i ≡ (headFits 61 r && eqb (ofBe (part 3 8 r)) ctr && eqb (ofBe (part 11 4 r)) i)
+    fits-all m p em = rw (sym eh ∙ taken, sym (ap (λ (l : ℕ). eqb l ctr) en) ∙ p, em)
+
+-- the same of what the code reads and writes, record i beginning at a
+module _ (key kw nonce table : List ℕ) (ctr i a : ℕ) (i1 : 1 ≤ i) (inside : i * 63 ≤ length table) (ea : a ≡ (i - 1) * 63) where
+  within-table : (i - 1) * 63 + 63 ≤ length table
+  within-table = omega arith
+
+  read-record : take (a + 63 - a) (drop a table) ≡ recordAt i table
+  unfolding recordAt
+  read-record = let q : a + 63 - a ≡ 63 = omega arith in rw (q, ea)
+
+  module _ (f : Bool) (ef : f ≡ (headFits 61 (take (a + 63 - a) (drop a table)) && eqb (ofBe (part 3 8 (take (a + 63 - a) (drop a table)))) ctr && eqb (ofBe (part 11 4 (take (a + 63 - a) (drop a table)))) i)) where
+    read-fits : f ≡ clear-fits i table within-table key ctr
+    read-fits = ef ∙ ap (λ (r : List ℕ). headFits 61 r && eqb (ofBe (part 3 8 r)) ctr && eqb (ofBe (part 11 4 r)) i) read-record
+
+    pub opens-no : f ≡ false → false ≡ there (tokenIn standard key ctr i (recordAt i table))
+    opens-no e = opens-not i table within-table key ctr (sym read-fits ∙ e)
+
+    pub opens-yes : (r : Bool) → f ≡ true → kw ≡ keyWords key → nonce ≡ nonceBytes ctr i
+        → r ≡ opens kw nonce (take (a + 15 - a) (drop a table)) (part (a + 15) 32 table) (part (a + 15 + 32) 16 table)
+        → r ≡ there (tokenIn standard key ctr i (recordAt i table))
+    opens-yes r e ek en er =
+        let q : a + 15 - a ≡ 15 = omega arith in
+        opens-is i table within-table key ctr r (sym read-fits ∙ e) (er ∙ rw (ek, en, q, ea))
+
+  pub token-out : (x y : List ℕ) → kw ≡ keyWords key → nonce ≡ nonceBytes ctr i
+      → x ≡ put 0 (take (a + 15 + 32 - (a + 15)) (drop (a + 15) table)) (replicate 32 0) → y ≡ cipher kw 1 nonce x
+      → there (tokenIn standard key ctr i (recordAt i table)) ≡ true → y ≡ value (tokenIn standard key ctr i (recordAt i table))
+  unfolding put
+  token-out x y ek en ex ey h =
+      let q : a + 15 + 32 - (a + 15) ≡ 32 = omega arith in
+      let p : List ℕ = part ((i - 1) * 63 + 15) 32 table in
+      let l : length p ≡ 32 = length-part ((i - 1) * 63 + 15) 32 table (omega (arith, within-table)) in
+      let z : p ++ drop (length p) (replicate 32 0) ≡ p = ap (λ (n : ℕ). p ++ drop n (replicate 32 0)) l ∙ append-nil p in
+      let e : x ≡ p = ex ∙ rw (q, ea) z in
+      ey ∙ rw (ek, en, e) (token-is i table within-table key ctr h)
+
+  pub seal-out : (x clear t1 t2 t3 : List ℕ) → length x ≡ 32 → kw ≡ keyWords key → nonce ≡ nonceBytes ctr i → clear ≡ clearBytes ctr i
+      → t1 ≡ put a clear table → t2 ≡ put (a + 15) x t1 → t3 ≡ put (a + 15) (seal kw nonce clear (part (a + 15) 32 t2)) t2
+      → t3 ≡ put ((i - 1) * 63) (sealedRecord standard key ctr i x) table
+  seal-out x clear t1 t2 t3 lx ek en ec e1 e2 e3 =
+      sealed-is key x table t1 t2 t3 ctr i lx within-table (e1 ∙ rw (ea, ec)) (e2 ∙ rw ea) (e3 ∙ rw (ek, en, ec, ea))

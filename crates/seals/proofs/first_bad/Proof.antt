@@ -1,6 +1,5 @@
 -- The search that is left finds what the whole one does, by bad-step and bad-found.
 use borrow.Author.Needs.{needs}
-use native.Mathlib.Omega.{arith}
 use Prim.Native.Nat.{_+_, _-_, _≤_}
 use mathlib.Core.Path.{_≡_, refl, sym, _∙_}
 use Rattle.scheme.specs.Table.{firstBad}
@@ -28,13 +27,13 @@ loop-less : tie.Need-loop-less Inv-loop μ-loop
 loop-less c = search needs
 
 loop-again : tie.Need-loop-again Inv-loop μ-loop
-loop-again c = ?
+loop-again c = (search needs, search needs, sym (bad-step standard (c .before .before .before .before .before .args .key) (c .before .before .before .before .before .args .counter) (c .before .before .before .before .before .args .tokens) (c .before .before .before .loop .i) (c .before .before .before .before .before .args .table .now) (c .before .before .loop-test .taken) (sym (c .before .opens .ensures) ∙ c .if1 .taken)) ∙ c .before .before .before .loop .inv .2)
 
 returns : tie.Need-returns Inv-loop μ-loop
-returns c = ?
+returns c = sym (bad-found standard (c .before .before .before .before .before .args .key) (c .before .before .before .before .before .args .counter) (c .before .before .before .before .before .args .tokens) (c .before .before .before .loop .i) (c .before .before .before .before .before .args .table .now) (c .before .before .loop-test .taken) (sym (c .before .opens .ensures) ∙ c .if1 .left)) ∙ c .before .before .before .loop .inv .2
 
 returns-2 : tie.Need-returns-2 Inv-loop μ-loop
-returns-2 c = ?
+returns-2 c = sym (bad-none standard (c .before .before .before .args .key) (c .before .before .before .args .counter) (c .before .before .before .args .tokens) (c .before .loop .i) (c .before .before .before .args .table .now) (c .loop-test .left)) ∙ c .before .loop .inv .2
 
 pub first-bad-spec : {M : Type 1} → statement M
 first-bad-spec =

@@ -1,6 +1,6 @@
 -- The clear bytes, then the tag, by opens-is and opens-not.
-use Rattle.seals.proofs.SealLaws.{opens-is, opens-not}
-use mathlib.Core.Path.{_≡_}
+use Rattle.seals.proofs.SealLaws.{opens-no, opens-yes}
+use mathlib.Core.List.{[]}
 use borrow.Author.Needs.{needs}
 use Rattle.seals.proofs.opens.Statement.{statement}
 use Rattle.seals.proofs.opens.Tie as tie
@@ -51,10 +51,10 @@ opens-at-requires : tie.Need-opens-at-requires
 opens-at-requires c κs = search needs
 
 returns : tie.Need-returns
-returns c = ?
+returns c = opens-yes (c .before .before .before .before .before .before .before .before .before .before .before .args .t1) _ _ (c .before .before .before .before .before .before .before .before .before .before .before .args .table .now) (c .before .before .before .before .before .before .before .before .before .before .before .args .counter) (c .before .before .before .before .before .before .before .before .before .before .before .args .i .0) _ (c .before .before .before .before .before .before .before .before .before .before .before .pre .0) (c .before .before .before .before .before .before .before .before .before .before .before .pre .2) (c .before .before .before .before .before .before .before .before .before .start-of .ensures) _ (c .before .before .before .before .before .before .before .clear-fits .ensures) _ (c .before .before .before .before .before .before .if1 .taken) (c .before .before .before .before .key-words .ensures) (c .before .before .before .nonce-bytes .ensures) (c .opens-at .ensures)
 
 returns-2 : tie.Need-returns-2
-returns-2 c = ?
+returns-2 c = opens-no (c .before .before .before .before .before .args .t1) [] [] (c .before .before .before .before .before .args .table .now) (c .before .before .before .before .before .args .counter) (c .before .before .before .before .before .args .i .0) _ (c .before .before .before .before .before .pre .0) (c .before .before .before .before .before .pre .2) (c .before .before .before .start-of .ensures) _ (c .before .clear-fits .ensures) (c .if1 .left)
 
 pub opens-spec : {M : Type 1} → statement M
 opens-spec =

@@ -1,5 +1,5 @@
 -- Clear bytes, token and seal are put in place one after the other, by sealed-is.
-use Rattle.seals.proofs.SealLaws.{sealed-is}
+use Rattle.seals.proofs.SealLaws.{seal-out}
 use borrow.Author.Needs.{needs}
 use Rattle.seals.proofs.seal_token.Statement.{statement}
 use Rattle.seals.proofs.seal_token.Tie as tie
@@ -47,7 +47,7 @@ same-length : tie.Need-same-length
 same-length c = search needs
 
 returns : tie.Need-returns
-returns c = ?
+returns c = seal-out (c .before .before .before .before .before .before .before .before .before .before .before .before .before .before .before .before .before .before .before .before .before .before .args .t1) _ _ (c .before .before .before .before .before .before .before .before .before .before .before .before .before .before .before .before .before .before .before .before .before .before .args .table .now) (c .before .before .before .before .before .before .before .before .before .before .before .before .before .before .before .before .before .before .before .before .before .before .args .counter) (c .before .before .before .before .before .before .before .before .before .before .before .before .before .before .before .before .before .before .before .before .before .before .args .i .0) _ (c .before .before .before .before .before .before .before .before .before .before .before .before .before .before .before .before .before .before .before .before .before .before .pre .0) (c .before .before .before .before .before .before .before .before .before .before .before .before .before .before .before .before .before .before .before .before .before .before .pre .2) (c .before .before .before .before .before .before .before .before .before .before .before .before .before .before .before .before .before .before .before .before .start-of .ensures) _ _ _ _ _ (search needs) (c .before .before .before .before .before .before .before .before .before .before .before .before .before .before .before .before .before .before .key-words .ensures) (c .before .before .before .before .before .before .before .before .before .before .before .before .before .before .before .before .before .nonce-bytes .ensures) (c .before .before .before .before .before .before .before .before .before .before .before .before .before .before .before .before .clear-bytes .ensures) (c .before .before .before .before .before .before .before .before .before .before .before .before .before .copy .ensures) (c .before .before .before .before .before .before .before .before .copy2 .ensures) (c .before .before .seal-at .ensures)
 
 pub seal-token-spec : {M : Type 1} → statement M
 seal-token-spec =

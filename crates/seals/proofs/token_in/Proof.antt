@@ -1,5 +1,5 @@
 -- The sealed bytes deciphered are the token, by token-is.
-use Rattle.seals.proofs.SealLaws.{token-is}
+use Rattle.seals.proofs.SealLaws.{token-out}
 use borrow.Author.Needs.{needs}
 use Rattle.seals.proofs.token_in.Statement.{statement}
 use Rattle.seals.proofs.token_in.Tie as tie
@@ -47,7 +47,7 @@ cipher-requires : tie.Need-cipher-requires
 cipher-requires c κs = search needs
 
 returns : tie.Need-returns
-returns c = ?
+returns c = token-out (c .before .before .before .before .before .before .before .before .before .before .before .before .before .args .t1) _ _ (c .before .before .before .before .before .before .before .before .before .before .before .before .before .args .table .now) (c .before .before .before .before .before .before .before .before .before .before .before .before .before .args .counter) (c .before .before .before .before .before .before .before .before .before .before .before .before .before .args .i .0) _ (search needs) (search needs) (c .before .before .before .before .before .before .before .before .before .before .before .start-of .ensures) _ _ (c .before .before .before .before .before .before .before .before .before .key-words .ensures) (c .before .before .before .before .before .before .before .before .nonce-bytes .ensures) (c .before .before .before .before .before .copy .ensures) (c .before .cipher .ensures) (search needs)
 
 pub token-in-spec : {M : Type 1} → statement M
 token-in-spec =
