@@ -1,4 +1,5 @@
 -- Laws of the audit's calls at the standard primitives: codes from tests, and what a refusal and an answer leave. Assumes nothing.
+--   set-up-of                                          the code of a set-up
 --   draw-short, draw-small, draw-of                    the code of a draw; draw-held, draw-kept, draw-done: what it has, and its buffers
 --   judge-short .. judge-done                          the same of judging
 --   prove-short .. prove-done                          the same of the host's proof
@@ -25,11 +26,11 @@ use Rattle.aead.proofs.Sealing.{opened-part}
 use Rattle.scheme.specs.Ladder.{first, ifZero}
 use Rattle.scheme.specs.Lists.{pieces}
 use Rattle.scheme.specs.Records as R
-use Rattle.scheme.specs.Records.{headFits, nonceBytes, readCard, readMessage, cardBytes, messageBytes, replyBytes, recordAt}
+use Rattle.scheme.specs.Records.{headFits, shapeFits, tokenFits, nonceBytes, readCard, readMessage, cardBytes, messageBytes, replyBytes, recordAt}
 use Rattle.scheme.specs.Tokens.{keyK, digest}
 use Rattle.scheme.specs.Table.{there, value, bodyIn}
 use Rattle.scheme.specs.Judging as J
-use Rattle.scheme.specs.Calls.{turnedCard, messageFor, drawCode, drawCard, drawMessage, judgeFault, judgeCode, judgeCard, proveCode, proveReply}
+use Rattle.scheme.specs.Calls.{setUpCode, turnedCard, messageFor, drawCode, drawCard, drawMessage, judgeFault, judgeCode, judgeCard, proveCode, proveReply}
 use Rattle.standard.specs.Standard.{standard}
 use Rattle.records.specs.Fields.{cardOf, messageOf, cardFault, messageFault}
 use Rattle.records.specs.declared.Card as DC
@@ -64,6 +65,14 @@ pub record Lent (master card : List ℕ) : Type 0 where
 second : (a b : Bool) → b ≡ false → (a && b) ≡ false
 second true b h = h
 second false b h = refl
+
+-- the code of a set-up from its tests
+pub set-up-of : {b₁ b₂ b₃ b₄ b₅ b₆ : Bool} (master id : List ℕ) (B d r t : ℕ) (blocks card table : List ℕ)
+    → eqb (length master) 32 ≡ b₁ → eqb (length id) 8 ≡ b₂ → eqb (length card) 43 ≡ b₃ → shapeFits B d r ≡ b₄ → tokenFits t ≡ b₅
+    → (eqb (length blocks) (d * B) && eqb (length table) (t * 63)) ≡ b₆
+    → _≡_ {A = ℕ} (cond (b₁ && b₂ && b₃) (cond (b₄ && b₅) (cond b₆ 0 1) 3) 1) (setUpCode standard master id B d r t blocks card table)
+unfolding setUpCode first
+set-up-of master id B d r t blocks card table p₁ p₂ p₃ p₄ p₅ p₆ = rw (p₁, p₂, p₃, p₄, p₅, p₆)
 
 module _ (master card message : List ℕ) where
   abbrev lent : Bool

@@ -1,8 +1,9 @@
-// The calls that audit a file: draw, judge and the host's proof. A call that is turned away leaves every buffer.
+// The calls that audit a file: draw, judge and the host's proof, and the code of a set-up. A call that is turned away leaves every buffer.
 // Every function equals a definition of the scheme's Calls or Judging at the standard primitives. Nothing is assumed.
 ghost use mathlib.Core.Path.{_≡_};
 ghost use mathlib.Core.Bool.{_&&_};
 ghost use mathlib.Core.List.{[], _∷_};
+ghost use Prim.Native.Nat.{_*_, _≤_};
 ghost use lib.Dec.{eqb};
 ghost use lib.ListN.{length, drop};
 ghost use Rattle.octets.specs.Octets as O;
@@ -32,6 +33,52 @@ fn turned(c: records::Card, next: u64, open_token: u64) -> records::Card
         next,
         open_token,
     }
+}
+
+// Whether the blocks and the table of a set-up have the bytes that numbers within the limits ask for.
+fn sizes_fit(block_bytes: u64, rows: u64, tokens: u64, blocks: &[u8], table: &[u8]) -> bool
+    requires { ⌜ («block_bytes» ≤ 4096) × (rows ≤ 1048576) × (tokens ≤ 65536) ⌝ }
+    ensures { λ r. ⌜ r ≡ (eqb (length (now (blocks .entry))) (rows * «block_bytes») && eqb (length (now (table .entry))) (tokens * 63)) ⌝ }
+{
+    (blocks.len() as u64 == rows * block_bytes) & (table.len() as u64 == tokens * 63)
+}
+
+// The code of a set-up. Writes nothing.
+fn set_up_code(
+    master: &[u8],
+    id: &[u8],
+    block_bytes: u64,
+    rows: u64,
+    positions: u64,
+    tokens: u64,
+    blocks: &[u8],
+    card: &[u8],
+    table: &[u8],
+) -> u64
+    ensures { λ r. ⌜ r ≡ S.setUpCode standard (now (master .entry)) (now (id .entry)) «block_bytes» rows positions tokens (now (blocks .entry)) (now (card .entry)) (now (table .entry)) ⌝ }
+{
+    if master.len() != 32 {
+        return 1;
+    }
+    if id.len() != 8 {
+        return 1;
+    }
+    if card.len() != 43 {
+        return 1;
+    }
+    let shape = records::shape_fits(block_bytes, rows, positions);
+    if !shape {
+        return 3;
+    }
+    let few = records::token_fits(tokens);
+    if !few {
+        return 3;
+    }
+    let sizes = sizes_fit(block_bytes, rows, tokens, blocks, table);
+    if !sizes {
+        return 1;
+    }
+    0
 }
 
 // The code of a draw. Writes nothing.
