@@ -13,7 +13,7 @@ use native.Mathlib.Omega.{arith}
 use mathlib.Core.Path.{_≡_, refl, sym, ap, ap₂, _∙_}
 use mathlib.Core.Bool.{Bool, true, false, cond, _&&_}
 use mathlib.Core.List.{List, [], _∷_, _++_, append-nil}
-use mathlib.Core.Option.{Option, none, some}
+use mathlib.Core.Option.{none, some}
 use borrow.Author.Tests.{eq-eqb, eqb-true, leb-true}
 use lib.ListN.{length, take, drop, replicate, length-drop}
 use lib.Seq.{take-all, drop-drop}
@@ -42,11 +42,11 @@ use Rattle.tokens.specs.declared.Keys.{Keys}
 use Rattle.tokens.proofs.TokenKeys.{draw-key, hash-key}
 
 -- what a refusal leaves, and what an answer writes
-kept : {A : Type 0} (code : ℕ) (x y : A) (n : ℕ) → n ≡ code → (n ≡ 0 → ⊥) → y ≡ ifZero code x y
+pub kept : {A : Type 0} (code : ℕ) (x y : A) (n : ℕ) → n ≡ code → (n ≡ 0 → ⊥) → y ≡ ifZero code x y
 kept zero x y n e h = absurd (h e)
 kept (suc m) x y n e h = refl
 
-done : {A : Type 0} (code : ℕ) (x y : A) (n : ℕ) → n ≡ code → n ≡ 0 → x ≡ ifZero code x y
+pub done : {A : Type 0} (code : ℕ) (x y : A) (n : ℕ) → n ≡ code → n ≡ 0 → x ≡ ifZero code x y
 done zero x y n e h = refl
 done (suc m) x y n e h = absurd (omega arith)
 

@@ -1,4 +1,4 @@
-// The calls that audit a file: draw, judge and the host's proof, and the code of a set-up. A call that is turned away leaves every buffer.
+// The calls that audit a file: set-up, draw, judge and the host's proof. A call that is turned away leaves every buffer.
 // Every function equals a definition of the scheme's Calls or Judging at the standard primitives. Nothing is assumed.
 ghost use mathlib.Core.Path.{_≡_};
 ghost use mathlib.Core.Bool.{_&&_};
@@ -11,7 +11,10 @@ ghost use Rattle.octets.specs.Octets.{ofBe, part};
 ghost use Rattle.scheme.specs.Calls as S;
 ghost use Rattle.scheme.specs.Ladder.{first};
 ghost use Rattle.scheme.specs.Records.{headFits};
-ghost use Rattle.scheme.specs.Table.{there, value, bodyIn};
+ghost use Rattle.scheme.specs.Table.{there, value, bodyIn, sealedRecord};
+ghost use Rattle.scheme.specs.Lists.{pieces, recordsFrom};
+ghost use Rattle.scheme.specs.Tokens as T;
+ghost use Rattle.tokens.specs.Keyed.{Laid, tokenKey};
 ghost use Rattle.scheme.specs.Judging as J;
 ghost use Rattle.standard.specs.Standard.{standard};
 ghost use Rattle.records.specs.Fields.{cardOf, messageOf};
@@ -78,6 +81,110 @@ fn set_up_code(
     if !sizes {
         return 1;
     }
+    0
+}
+
+// Fills the table: record i holds token i over the blocks, sealed at counter 0. Each drawn block of a token is hashed once.
+fn fill_table(
+    keys: tokens::Keys,
+    block_bytes: u64,
+    rows: u64,
+    positions: u64,
+    tokens: u64,
+    blocks: &[u8],
+    table: &mut [u8],
+)
+    requires { ⌜ Laid rows «block_bytes» rows (now blocks) × (positions ≤ rows) × (tokens ≤ 65536) × (length (now table) ≡ tokens * 63) ⌝ }
+    ensures { λ _. ⌜ now (table .exit) ≡ recordsFrom (λ i. sealedRecord standard (keys .k) 0 i (T.digest standard (tokenKey (keys .w) i) (tokenKey (keys .z) i) rows positions (pieces «block_bytes» rows (now (blocks .entry))))) tokens 1 ⌝ }
+{
+    let w = keys.w;
+    let z = keys.z;
+    let k = keys.k;
+    let mut i: u64 = 1;
+    while i <= tokens {
+        let draw_key = tokens::token_key(w, counts::Token(i));
+        let hash_key = tokens::token_key(z, counts::Token(i));
+        let x = tokens::digest(
+            draw_key,
+            hash_key,
+            rows,
+            positions,
+            block_bytes,
+            rows,
+            blocks,
+        );
+        seals::seal_token(k, 0, counts::Token(i), x, table);
+        i += 1;
+    }
+}
+
+// The eight bytes of a file id.
+fn file_id(id: &[u8]) -> [u8; 8]
+    requires { ⌜ length (now id) ≡ 8 ⌝ }
+    ensures { λ r. ⌜ r ≡ now (id .entry) ⌝ }
+{
+    let mut file = [0u8; 8];
+    octets::copy(&mut file, 0, id);
+    file
+}
+
+// The card of a new file: a block a row, counter 0, token 1 to draw, none open.
+fn first_card(
+    id: [u8; 8],
+    block_bytes: u64,
+    rows: u64,
+    positions: u64,
+    tokens: u64,
+) -> records::Card
+    ensures { λ r. ⌜ cardOf r ≡ record { id = id; B = «block_bytes»; d = rows; r = positions; t = tokens; n = rows; ctr = 0; next = 1; open′ = 0 } ⌝ }
+{
+    records::Card {
+        id,
+        block_bytes,
+        rows,
+        positions,
+        tokens,
+        blocks: rows,
+        counter: 0,
+        next: 1,
+        open_token: 0,
+    }
+}
+
+// Set-up: writes the card and the table of a new file over its first blocks, one a row, and answers 0; a refusal leaves both.
+pub fn set_up(
+    master: &[u8],
+    id: &[u8],
+    block_bytes: u64,
+    rows: u64,
+    positions: u64,
+    tokens: u64,
+    blocks: &[u8],
+    card: &mut [u8],
+    table: &mut [u8],
+) -> u64
+    ensures { λ r. ⌜ r ≡ S.setUpCode standard (now (master .entry)) (now (id .entry)) «block_bytes» rows positions tokens (now (blocks .entry)) (now (card .entry)) (now (table .entry)) ⌝ }
+    ensures { λ _. ⌜ now (card .exit) ≡ S.setUpCard standard (now (master .entry)) (now (id .entry)) «block_bytes» rows positions tokens (now (blocks .entry)) (now (card .entry)) (now (table .entry)) ⌝ }
+    ensures { λ _. ⌜ now (table .exit) ≡ S.setUpTable standard (now (master .entry)) (now (id .entry)) «block_bytes» rows positions tokens (now (blocks .entry)) (now (card .entry)) (now (table .entry)) ⌝ }
+{
+    let code = set_up_code(
+        master,
+        id,
+        block_bytes,
+        rows,
+        positions,
+        tokens,
+        blocks,
+        card,
+        table,
+    );
+    if code != 0 {
+        return code;
+    }
+    let file = file_id(id);
+    let keys = tokens::file_keys(master, file);
+    fill_table(keys, block_bytes, rows, positions, tokens, blocks, table);
+    records::write_card(card, first_card(file, block_bytes, rows, positions, tokens));
     0
 }
 

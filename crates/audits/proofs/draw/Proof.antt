@@ -1,5 +1,5 @@
 -- A refusal leaves both buffers, by draw-kept; else they hold the message and the turned card, by draw-done.
-use mathlib.Core.Path.{sym, ap, ap₂, _∙_}
+use mathlib.Core.Path.{sym, ap, _∙_}
 use native.Mathlib.Omega.{arith}
 use Rattle.records.specs.Fields.{cardOf}
 use Rattle.records.proofs.FaultLaws.{card-held}

@@ -1,9 +1,8 @@
 -- The code of a draw from its tests, by draw-of.
 use Rattle.standard.specs.Standard.{standard}
 use Rattle.scheme.proofs.LadderLaws.{pair}
-use mathlib.Core.Path.{_≡_, refl, sym, ap, ap₂, _∙_}
-use native.Mathlib.Omega.{arith}
-use borrow.Author.Tests.{eq-eqb, ne-eqb, not-true, not-false, lt-leb, le-leb, lt-ltb, le-ltb}
+use mathlib.Core.Path.{refl, sym, _∙_}
+use borrow.Author.Tests.{eq-eqb, ne-eqb, lt-leb, le-leb}
 use lib.ListN.{length}
 use Rattle.audits.proofs.AuditLaws.{draw-short, draw-small, draw-of}
 use Rattle.records.proofs.FaultLaws.{draw-refused, card-fine}

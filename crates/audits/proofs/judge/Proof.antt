@@ -1,6 +1,5 @@
 -- A refusal leaves the card, by judge-kept; either verdict closes the draw, by judge-done.
-use mathlib.Core.Path.{sym, ap, ap₂, _∙_}
-use native.Mathlib.Omega.{arith}
+use mathlib.Core.Path.{ap, _∙_}
 use Rattle.records.specs.Fields.{cardOf}
 use Rattle.scheme.specs.Records.{cardBytes}
 use Rattle.scheme.specs.Judging.{verdictOf}

@@ -1,8 +1,8 @@
 -- The code of a judging from its tests, by judge-of.
 use Rattle.standard.specs.Standard.{standard}
-use mathlib.Core.Path.{_≡_, refl, sym, ap, ap₂, _∙_}
+use mathlib.Core.Path.{sym, _∙_}
 use native.Mathlib.Omega.{arith}
-use borrow.Author.Tests.{eq-eqb, ne-eqb, not-true, not-false, lt-leb, le-leb, lt-ltb, le-ltb}
+use borrow.Author.Tests.{eq-eqb, ne-eqb, lt-ltb, le-ltb}
 use lib.ListN.{length}
 use Rattle.audits.proofs.AuditLaws.{judge-short, judge-of}
 use Rattle.records.proofs.FaultLaws.{judge-refused, card-fine}

@@ -1,8 +1,8 @@
 -- A refusal leaves the reply, by prove-kept; else it holds digest and record, by prove-done.
-use Prim.Native.Nat.{_*_, _-_}
+use Prim.Native.Nat.{_-_}
 use mathlib.Core.List.{List}
 use Prim.Native.Nat.{ℕ}
-use mathlib.Core.Path.{sym, ap, ap₂, _∙_}
+use mathlib.Core.Path.{sym, ap₂, _∙_}
 use native.Mathlib.Omega.{arith}
 use Rattle.records.specs.Fields.{messageOf}
 use Rattle.scheme.specs.Records.{replyBytes}

@@ -1,8 +1,7 @@
 -- The cause from its tests in their order, by cause-of.
 use Rattle.octets.specs.Octets.{ofBe}
-use mathlib.Core.Path.{_≡_, refl, sym, ap, ap₂, _∙_}
-use native.Mathlib.Omega.{arith}
-use borrow.Author.Tests.{eq-eqb, ne-eqb, not-true, not-false, lt-leb, le-leb, lt-ltb, le-ltb}
+use mathlib.Core.Path.{refl, sym, ap, _∙_}
+use borrow.Author.Tests.{eq-eqb, ne-eqb, not-true, not-false}
 use lib.ListN.{length}
 use Rattle.audits.proofs.AuditLaws.{cause-of, record-number}
 use borrow.Author.Needs.{needs}
