@@ -5,13 +5,12 @@
 --   hash-whole      the hash of a block from its three pieces
 use Prim.Native.Nat.{ℕ, _≤_}
 use native.Mathlib.Omega.{arith}
-use mathlib.Core.Path.{_≡_, ap, ap₂, _∙_}
+use mathlib.Core.Path.{_≡_, ap, _∙_}
 use mathlib.Core.List.{List, [], _∷_, _++_, append-nil}
 use lib.ListN.{length, take, drop, replicate}
 use Rattle.octets.specs.Octets.{be, put}
 use Rattle.octets.proofs.NumberLaws.{length-be}
-use Rattle.sha256.specs.Stream.{Stream, started, absorbed, finish}
-use Rattle.sha256.proofs.StreamLaws.{absorbed-append, finish-is}
+use Rattle.sha256.specs.Sha256.{sha256}
 use Rattle.hmac.specs.Hmac.{hmac, prepared, keyed}
 use Rattle.hmac.specs.declared.Key.{Key}
 use Rattle.hmac.proofs.HmacLaws.{keyed-is}
@@ -43,16 +42,7 @@ file-keyed master id p w z a b k l ep ea ew eb ez ek = record {
   sealing = under master (3 ∷ id) k p l ep ek;
 }
 
-pub hash-whole : (c m content r : List ℕ) (index : ℕ) (s₀ s₁ s₂ s₃ : Stream) → m ≡ put 0 (be 4 index) (replicate 4 0)
-    → s₀ ≡ started → s₁ ≡ absorbed s₀ c → s₂ ≡ absorbed s₁ m → s₃ ≡ absorbed s₂ content → r ≡ finish s₃
+pub hash-whole : (c m content r : List ℕ) (index : ℕ) → m ≡ put 0 (be 4 index) (replicate 4 0) → r ≡ sha256 (c ++ m ++ content)
     → r ≡ blockHash standard c index content
 unfolding blockHash
-hash-whole c m content r index s₀ s₁ s₂ s₃ em e₀ e₁ e₂ e₃ er =
-    let keyed₁ : s₁ ≡ absorbed started c = e₁ ∙ ap (λ (s : Stream). absorbed s c) e₀ in
-    let indexed : s₂ ≡ absorbed (absorbed started c) (be 4 index) = e₂ ∙ ap₂ absorbed keyed₁ (em ∙ four-bytes index) in
-    let whole : s₃ ≡ absorbed started (c ++ be 4 index ++ content) =
-    e₃
-    ∙ ap (λ (s : Stream). absorbed s content) (indexed ∙ absorbed-append started c (be 4 index))
-    ∙ absorbed-append started (c ++ be 4 index) content
-    in
-    er ∙ ap finish whole ∙ finish-is (c ++ be 4 index ++ content)
+hash-whole c m content r index em er = er ∙ ap (λ (u : List ℕ). sha256 (c ++ u ++ content)) (em ∙ four-bytes index)

@@ -115,11 +115,7 @@ pub fn block_hash(c: [u8; 32], index: u64, content: &[u8]) -> [u8; 32]
 {
     let mut m = [0u8; 4];
     octets::put_be4(&mut m, 0, index);
-    let s = sha256::start();
-    let keyed = sha256::absorb(s, &c);
-    let indexed = sha256::absorb(keyed, &m);
-    let whole = sha256::absorb(indexed, content);
-    sha256::finish(whole)
+    running::hash(&c, &m, content)
 }
 
 // The digest of a row at a position, from the newest column back to the oldest.
