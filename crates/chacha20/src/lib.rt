@@ -18,7 +18,7 @@ pub struct Quad {
 }
 
 // The sum modulo 2^32.
-fn add(a: u32, b: u32) -> u32
+pub fn add(a: u32, b: u32) -> u32
     ensures { λ r. ⌜ r ≡ a ⊞ b ⌝ }
 {
     std::num::wrapping_add_u32(a, b)
@@ -123,7 +123,7 @@ fn sums(v: [u32; 16], s: [u32; 16]) -> [u32; 16]
 }
 
 // The state before the rounds.
-fn state(key: [u32; 8], counter: u32, n0: u32, n1: u32, n2: u32) -> [u32; 16]
+pub fn state(key: [u32; 8], counter: u32, n0: u32, n1: u32, n2: u32) -> [u32; 16]
     ensures { λ r. ⌜ r ≡ C.state key counter (n0 ∷ n1 ∷ n2 ∷ []) ⌝ }
 {
     [
