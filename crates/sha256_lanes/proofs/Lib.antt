@@ -1,0 +1,4 @@
+pub mod LaneLaws
+mod LoopLaws
+mod WordLaws
+mod CompressLaws
