@@ -11,7 +11,7 @@ use mathlib.Core.Bool.{cond}
 use native.Mathlib.Omega.{arith}
 use lib.Dec.{ltb}
 use borrow.Author.Tests.{le-ltb}
-use lib.ListN.{length, getD, set, take, drop, length-append, length-set, length-drop, List·getD-append}
+use lib.ListN.{length, getD, take, drop, length-append, length-set, length-drop, List·getD-append}
 use lib.Seq.{drop-append-le, drop-drop, getD-take, getD-drop, getD-set-same, getD-set-other}
 use Rattle.sha256.specs.Sha256.{_⊞_, K, round, rounds, schedule, next, word, added, compressed}
 use Rattle.sha256_lanes.specs.Lanes.{laneFrom, lane, putLane, roundWords, runs, ran, nextWord, slid, slides, moved, sums}
