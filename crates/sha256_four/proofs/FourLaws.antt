@@ -18,51 +18,20 @@ use Rattle.sha256.specs.Sha256.{chain, padding, digest, hashed, sha256, H0}
 use Rattle.sha256.specs.Stream.{Stream, taken}
 use Rattle.sha256.proofs.StreamLaws.{chain-done, taken-taken}
 use Rattle.sha256_lanes.specs.Lanes.{lane, putLane}
-use Rattle.sha256_lanes.proofs.LaneLaws.{same, apart, length-put}
+use Rattle.sha256_lanes.proofs.LaneLaws.{lanes-four}
 use Rattle.sha256_four.specs.Blocks.{after}
 
 length-H0 : length H0 ≡ 8
 unfolding H0
 length-H0 = refl
 
--- a list put in the four lanes one after the other
-module _ (h s s0 s1 s2 s3 : List ℕ) (e : h ≡ H0) (l : length s ≡ 32)
-    (e0 : s0 ≡ putLane s 0 h) (e1 : s1 ≡ putLane s0 1 h) (e2 : s2 ≡ putLane s1 2 h) (e3 : s3 ≡ putLane s2 3 h) where
-  len : length h ≡ 8
-  len = ap length e ∙ length-H0
-
-  len0 : length s0 ≡ 32
-  len0 = ap length e0 ∙ length-put s 0 h ∙ l
-
-  len1 : length s1 ≡ 32
-  len1 = ap length e1 ∙ length-put s0 1 h ∙ len0
-
-  len2 : length s2 ≡ 32
-  len2 = ap length e2 ∙ length-put s1 2 h ∙ len1
-
-  at0 : lane 0 s0 8 ≡ h
-  at0 = ap (λ (x : List ℕ). lane 0 x 8) e0 ∙ same s 0 8 h (omega arith) len (omega arith)
-
-  at1 : (lane 0 s1 8 ≡ h) × (lane 1 s1 8 ≡ h)
-  at1 = (
-    ap (λ (x : List ℕ). lane 0 x 8) e1 ∙ apart s0 1 0 8 h (omega arith) (omega arith) (λ e. omega arith) ∙ at0,
-    ap (λ (x : List ℕ). lane 1 x 8) e1 ∙ same s0 1 8 h (omega arith) len (omega (arith, len0)),
-  )
-
-  at2 : (lane 0 s2 8 ≡ h) × (lane 1 s2 8 ≡ h) × (lane 2 s2 8 ≡ h)
-  at2 = (
-    ap (λ (x : List ℕ). lane 0 x 8) e2 ∙ apart s1 2 0 8 h (omega arith) (omega arith) (λ e. omega arith) ∙ at1 .0,
-    ap (λ (x : List ℕ). lane 1 x 8) e2 ∙ apart s1 2 1 8 h (omega arith) (omega arith) (λ e. omega arith) ∙ at1 .1,
-    ap (λ (x : List ℕ). lane 2 x 8) e2 ∙ same s1 2 8 h (omega arith) len (omega (arith, len1)),
-  )
-
-  pub initial-is : (lane 0 s3 8 ≡ H0) × (lane 1 s3 8 ≡ H0) × (lane 2 s3 8 ≡ H0) × (lane 3 s3 8 ≡ H0)
-  initial-is = (
-    ap (λ (x : List ℕ). lane 0 x 8) e3 ∙ apart s2 3 0 8 h (omega arith) (omega arith) (λ e. omega arith) ∙ at2 .0 ∙ e,
-    ap (λ (x : List ℕ). lane 1 x 8) e3 ∙ apart s2 3 1 8 h (omega arith) (omega arith) (λ e. omega arith) ∙ at2 .1 ∙ e,
-    ap (λ (x : List ℕ). lane 2 x 8) e3 ∙ apart s2 3 2 8 h (omega arith) (omega arith) (λ e. omega arith) ∙ at2 .2 ∙ e,
-    ap (λ (x : List ℕ). lane 3 x 8) e3 ∙ same s2 3 8 h (omega arith) len (omega (arith, len2)) ∙ e,
-  )
+pub initial-is : (h s s0 s1 s2 s3 : List ℕ) → h ≡ H0 → length s ≡ 32
+    → s0 ≡ putLane s 0 h → s1 ≡ putLane s0 1 h → s2 ≡ putLane s1 2 h → s3 ≡ putLane s2 3 h
+    → (lane 0 s3 8 ≡ H0) × (lane 1 s3 8 ≡ H0) × (lane 2 s3 8 ≡ H0) × (lane 3 s3 8 ≡ H0)
+initial-is h s s0 s1 s2 s3 e l e0 e1 e2 e3 =
+    let n : length h ≡ 8 = ap length e ∙ length-H0 in
+    let d = lanes-four 8 s s0 s1 s2 s3 h h h h (omega arith) n n n n e0 e1 e2 e3 in
+    (d .0 ∙ e, d .1 ∙ e, d .2 ∙ e, d .3 ∙ e)
 
 pub done : (k n : ℕ) (h p v : List ℕ) → n ≡ length p / 64 → k ≤ n → n ≤ k → v ≡ chain k h p → v ≡ after h p
 unfolding after

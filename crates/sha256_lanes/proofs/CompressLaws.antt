@@ -15,7 +15,7 @@ use lib.ListN.{length, getD, take, drop, length-append, length-set, length-drop,
 use lib.Seq.{drop-append-le, drop-drop, getD-take, getD-drop, getD-set-same, getD-set-other}
 use Rattle.sha256.specs.Sha256.{_⊞_, K, round, rounds, schedule, next, word, added, compressed}
 use Rattle.sha256_lanes.specs.Lanes.{laneFrom, lane, putLane, roundWords, runs, ran, nextWord, slid, slides, moved, sums}
-use Rattle.sha256_lanes.proofs.LaneLaws.{length-lane, length-put, same, apart, length-each, each-lane}
+use Rattle.sha256_lanes.proofs.LaneLaws.{length-lane, length-four, lanes-four, length-each, each-lane}
 use Rattle.sha256_lanes.proofs.LoopLaws.{length-schedule}
 
 prefix : (m : List ℕ) (n d i : ℕ) → i < n → getD (schedule m (n + d)) i 0 ≡ getD (schedule m n) i 0
@@ -32,7 +32,7 @@ prefix m n (suc d) i h =
 unfoldable pub window : List ℕ → ℕ → List ℕ
 window m t = drop t (schedule m (t + 16))
 
-pub length-window : (m : List ℕ) (t : ℕ) → length (window m t) ≡ 16
+length-window : (m : List ℕ) (t : ℕ) → length (window m t) ≡ 16
 unfolding window
 length-window m t = omega (arith, length-drop t (schedule m (t + 16)), length-schedule m (t + 16))
 
@@ -65,7 +65,7 @@ slid-window m t =
     let g : schedule m (t + 1 + 16) ≡ s ++ (v ∷ []) = ap (schedule m) q in
     cc
 
-pub slides-window : (m : List ℕ) (n t : ℕ) → slides n (window m t) ≡ window m (t + n)
+slides-window : (m : List ℕ) (n t : ℕ) → slides n (window m t) ≡ window m (t + n)
 unfolding slides
 slides-window m zero t = rw (add-zero t)
 slides-window m (suc n) t =
@@ -80,7 +80,7 @@ at-window m t i l h =
     ∙ sym (prefix m (t + 16) (48 - t) (t + i) (omega arith))
     ∙ ap (λ (p : ℕ). getD (schedule m p) (t + i) 0) q
 
-pub runs-window : (m v : List ℕ) (t n : ℕ) → t ≤ 48 → n ≤ 16
+runs-window : (m v : List ℕ) (t n : ℕ) → t ≤ 48 → n ≤ 16
     → runs (roundWords t) (window m t) (rounds (schedule m 64) v t) n ≡ rounds (schedule m 64) v (t + n)
 unfolding runs rounds roundWords
 runs-window m v t zero a b = rw (add-zero t)
@@ -112,27 +112,27 @@ length-slides (suc n) x l =
     let y : List ℕ = nextWord (getD x 14 0) (getD x 9 0) (getD x 1 0) (getD x 0 0) ∷ [] in
     length-slides n (drop 1 x ++ y) (omega (arith, length-append (drop 1 x) y, length-drop 1 x))
 
-pub ran-lane : (t : ℕ) (w s : List ℕ) (i : ℕ) → length s ≡ 32 → i < 4 → lane i (ran t w 4 s) 8 ≡ runs (roundWords t) (lane i w 16) (lane i s 8) 16
+ran-lane : (t : ℕ) (w s : List ℕ) (i : ℕ) → length s ≡ 32 → i < 4 → lane i (ran t w 4 s) 8 ≡ runs (roundWords t) (lane i w 16) (lane i s 8) 16
 unfolding ran
 ran-lane t w s i l h =
     each-lane 8 (λ (j : ℕ) (x : List ℕ). runs (roundWords t) (lane j w 16) x 16) s (omega arith)
     (λ j. length-runs (roundWords t) (lane j w 16) (lane j s 8) 16 (length-lane j s 8)) 4 i h (omega arith)
 
-pub moved-lane : (w : List ℕ) (i : ℕ) → length w ≡ 64 → i < 4 → lane i (moved 4 w) 16 ≡ slides 16 (lane i w 16)
+moved-lane : (w : List ℕ) (i : ℕ) → length w ≡ 64 → i < 4 → lane i (moved 4 w) 16 ≡ slides 16 (lane i w 16)
 unfolding moved
 moved-lane w i l h =
     each-lane 16 (λ (j : ℕ) (x : List ℕ). slides 16 x) w (omega arith)
     (λ j. length-slides 16 (lane j w 16) (length-lane j w 16)) 4 i h (omega arith)
 
-pub length-ran : (t k : ℕ) (w s : List ℕ) → length (ran t w k s) ≡ length s
+length-ran : (t k : ℕ) (w s : List ℕ) → length (ran t w k s) ≡ length s
 unfolding ran
 length-ran t k w s = length-each 8 (λ (j : ℕ) (x : List ℕ). runs (roundWords t) (lane j w 16) x 16) k s
 
-pub length-moved : (k : ℕ) (w : List ℕ) → length (moved k w) ≡ length w
+length-moved : (k : ℕ) (w : List ℕ) → length (moved k w) ≡ length w
 unfolding moved
 length-moved k w = length-each 16 (λ (j : ℕ) (x : List ℕ). slides 16 x) k w
 
-pub first : (m h w s : List ℕ) (k : ℕ) → k < 4 → length h ≡ 32 → lane k w 16 ≡ window m 0 → s ≡ ran 0 w 4 h → At m h w s k 0
+first : (m h w s : List ℕ) (k : ℕ) → k < 4 → length h ≡ 32 → lane k w 16 ≡ window m 0 → s ≡ ran 0 w 4 h → At m h w s k 0
 unfolding rounds
 first m h w s k a l e p =
     record {
@@ -140,7 +140,7 @@ first m h w s k a l e p =
       state-is = ap (λ (x : List ℕ). lane k x 8) p ∙ ran-lane 0 w h k l a ∙ ap (λ (x : List ℕ). runs (roundWords 0) x (lane k h 8) 16) e ∙ runs-window m (lane k h 8) 0 16 (omega arith) (omega arith);
     }
 
-pub turn : (m h w s w′ s′ : List ℕ) (k t : ℕ) → k < 4 → t < 48 → t % 16 ≡ 0 → length w ≡ 64 → length s ≡ 32 → w′ ≡ moved 4 w → s′ ≡ ran (t + 16) w′ 4 s
+turn : (m h w s w′ s′ : List ℕ) (k t : ℕ) → k < 4 → t < 48 → t % 16 ≡ 0 → length w ≡ 64 → length s ≡ 32 → w′ ≡ moved 4 w → s′ ≡ ran (t + 16) w′ 4 s
     → At m h w s k t → At m h w′ s′ k (t + 16)
 turn m h w s w′ s′ k t a b d lw ls ew es i =
     let e : lane k w′ 16 ≡ window m (t + 16) =
@@ -193,54 +193,12 @@ sums-lane s h k a l =
     let e7 = sums-at 32 s h (k + 28) (omega arith) (omega arith) in
     cc
 
-pub last : (m h w s r : List ℕ) (k t : ℕ) → k < 4 → length s ≡ 32 → 48 ≤ t → t ≤ 48 → r ≡ sums 32 s h → At m h w s k t → lane k r 8 ≡ compressed (lane k h 8) m
+last : (m h w s r : List ℕ) (k t : ℕ) → k < 4 → length s ≡ 32 → 48 ≤ t → t ≤ 48 → r ≡ sums 32 s h → At m h w s k t → lane k r 8 ≡ compressed (lane k h 8) m
 unfolding compressed
 last m h w s r k t a l b d e i =
     let q : t + 16 ≡ 64 = omega arith in
     ap (λ (x : List ℕ). lane k x 8) e ∙ sums-lane s h k a l
     ∙ ap (added (lane k h 8)) (i .state-is ∙ ap (rounds (schedule m 64) (lane k h 8)) q)
-
--- lane i of the words of four blocks
-module _ (w w0 w1 w2 w3 m0 m1 m2 m3 : List ℕ) (l : length w ≡ 64)
-    (e0 : w0 ≡ putLane w 0 (schedule m0 16)) (e1 : w1 ≡ putLane w0 1 (schedule m1 16))
-    (e2 : w2 ≡ putLane w1 2 (schedule m2 16)) (e3 : w3 ≡ putLane w2 3 (schedule m3 16)) where
-  len0 : length w0 ≡ 64
-  len0 = ap length e0 ∙ length-put w 0 (schedule m0 16) ∙ l
-
-  len1 : length w1 ≡ 64
-  len1 = ap length e1 ∙ length-put w0 1 (schedule m1 16) ∙ len0
-
-  len2 : length w2 ≡ 64
-  len2 = ap length e2 ∙ length-put w1 2 (schedule m2 16) ∙ len1
-
-  len3 : length w3 ≡ 64
-  len3 = ap length e3 ∙ length-put w2 3 (schedule m3 16) ∙ len2
-
-  pub loaded0 : lane 0 w3 16 ≡ window m0 0
-  unfolding window
-  loaded0 =
-      ap (λ (x : List ℕ). lane 0 x 16) e3 ∙ apart w2 3 0 16 (schedule m3 16) (omega arith) (omega arith) (λ e. omega arith)
-      ∙ ap (λ (x : List ℕ). lane 0 x 16) e2 ∙ apart w1 2 0 16 (schedule m2 16) (omega arith) (omega arith) (λ e. omega arith)
-      ∙ ap (λ (x : List ℕ). lane 0 x 16) e1 ∙ apart w0 1 0 16 (schedule m1 16) (omega arith) (omega arith) (λ e. omega arith)
-      ∙ ap (λ (x : List ℕ). lane 0 x 16) e0 ∙ same w 0 16 (schedule m0 16) (omega arith) (length-schedule m0 16) (omega (arith))
-
-  pub loaded1 : lane 1 w3 16 ≡ window m1 0
-  unfolding window
-  loaded1 =
-      ap (λ (x : List ℕ). lane 1 x 16) e3 ∙ apart w2 3 1 16 (schedule m3 16) (omega arith) (omega arith) (λ e. omega arith)
-      ∙ ap (λ (x : List ℕ). lane 1 x 16) e2 ∙ apart w1 2 1 16 (schedule m2 16) (omega arith) (omega arith) (λ e. omega arith)
-      ∙ ap (λ (x : List ℕ). lane 1 x 16) e1 ∙ same w0 1 16 (schedule m1 16) (omega arith) (length-schedule m1 16) (omega (arith, len0))
-
-  pub loaded2 : lane 2 w3 16 ≡ window m2 0
-  unfolding window
-  loaded2 =
-      ap (λ (x : List ℕ). lane 2 x 16) e3 ∙ apart w2 3 2 16 (schedule m3 16) (omega arith) (omega arith) (λ e. omega arith)
-      ∙ ap (λ (x : List ℕ). lane 2 x 16) e2 ∙ same w1 2 16 (schedule m2 16) (omega arith) (length-schedule m2 16) (omega (arith, len1))
-
-  pub loaded3 : lane 3 w3 16 ≡ window m3 0
-  unfolding window
-  loaded3 =
-      ap (λ (x : List ℕ). lane 3 x 16) e3 ∙ same w2 3 16 (schedule m3 16) (omega arith) (length-schedule m3 16) (omega (arith, len2))
 
 -- all four lanes
 pub record All (m0 m1 m2 m3 h w s : List ℕ) (t : ℕ) : Type 0 where
@@ -254,14 +212,17 @@ pub record All (m0 m1 m2 m3 h w s : List ℕ) (t : ℕ) : Type 0 where
 pub first4 : (h w w0 w1 w2 w3 m0 m1 m2 m3 s : List ℕ) → length h ≡ 32 → length w ≡ 64
     → w0 ≡ putLane w 0 (schedule m0 16) → w1 ≡ putLane w0 1 (schedule m1 16) → w2 ≡ putLane w1 2 (schedule m2 16) → w3 ≡ putLane w2 3 (schedule m3 16)
     → s ≡ ran 0 w3 4 h → All m0 m1 m2 m3 h w3 s 0
+unfolding window
 first4 h w w0 w1 w2 w3 m0 m1 m2 m3 s lh l e0 e1 e2 e3 p =
+    let long : (m : List ℕ) → length (schedule m 16) ≡ 16 = λ m. length-schedule m 16 in
+    let d = lanes-four 16 w w0 w1 w2 w3 (schedule m0 16) (schedule m1 16) (schedule m2 16) (schedule m3 16) (omega arith) (long m0) (long m1) (long m2) (long m3) e0 e1 e2 e3 in
     record {
-      lw = len3 w w0 w1 w2 w3 m0 m1 m2 m3 l e0 e1 e2 e3;
+      lw = length-four 16 w w0 w1 w2 w3 (schedule m0 16) (schedule m1 16) (schedule m2 16) (schedule m3 16) (omega arith) (long m0) (long m1) (long m2) (long m3) e0 e1 e2 e3 ∙ l;
       ls = ap length p ∙ length-ran 0 4 w3 h ∙ lh;
-      at0 = first m0 h w3 s 0 (omega arith) lh (loaded0 w w0 w1 w2 w3 m0 m1 m2 m3 l e0 e1 e2 e3) p;
-      at1 = first m1 h w3 s 1 (omega arith) lh (loaded1 w w0 w1 w2 w3 m0 m1 m2 m3 l e0 e1 e2 e3) p;
-      at2 = first m2 h w3 s 2 (omega arith) lh (loaded2 w w0 w1 w2 w3 m0 m1 m2 m3 l e0 e1 e2 e3) p;
-      at3 = first m3 h w3 s 3 (omega arith) lh (loaded3 w w0 w1 w2 w3 m0 m1 m2 m3 l e0 e1 e2 e3) p;
+      at0 = first m0 h w3 s 0 (omega arith) lh (d .0) p;
+      at1 = first m1 h w3 s 1 (omega arith) lh (d .1) p;
+      at2 = first m2 h w3 s 2 (omega arith) lh (d .2) p;
+      at3 = first m3 h w3 s 3 (omega arith) lh (d .3) p;
     }
 
 pub turn4 : (m0 m1 m2 m3 h w s w′ s′ : List ℕ) (t : ℕ) → t < 48 → t % 16 ≡ 0 → w′ ≡ moved 4 w → s′ ≡ ran (t + 16) w′ 4 s

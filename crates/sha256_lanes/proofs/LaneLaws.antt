@@ -1,6 +1,7 @@
 -- Laws of lanes. Assumes nothing.
 --   length-lane, length-put, length-each     lengths
 --   same, apart                              a lane after words were put there, and another lane
+--   lanes-four, length-four                  the lanes after words were put in each of the four
 --   each-lane                                lane i of a list whose lanes were each changed
 --   lane-more, put-more                      one word more of a lane, and to it
 use mathlib.Core.Path.{_≡_, refl, sym, ap, _∙_}
@@ -68,6 +69,38 @@ same s k n xs l e f =
 pub apart : (s : List ℕ) (k i n : ℕ) (xs : List ℕ) → k < 4 → i < 4 → (i ≡ k → ⊥) → lane i (putLane s k xs) n ≡ lane i s n
 unfolding lane putLane
 apart s k i n xs a b d = put-apart s k i 0 xs n a b d
+
+-- words put in the four lanes, one after the other
+module _ (n : ℕ) (s s0 s1 s2 s3 x0 x1 x2 x3 : List ℕ) (l : 4 * n ≤ length s)
+    (l0 : length x0 ≡ n) (l1 : length x1 ≡ n) (l2 : length x2 ≡ n) (l3 : length x3 ≡ n)
+    (e0 : s0 ≡ putLane s 0 x0) (e1 : s1 ≡ putLane s0 1 x1) (e2 : s2 ≡ putLane s1 2 x2) (e3 : s3 ≡ putLane s2 3 x3) where
+  after : (u v xs : List ℕ) (k : ℕ) → k < 4 → length xs ≡ n → 4 * n ≤ length u → v ≡ putLane u k xs → lane k v n ≡ xs
+  after u v xs k a b d e = ap (λ (z : List ℕ). lane k z n) e ∙ same u k n xs a b d
+
+  stays : (u v xs : List ℕ) (k i : ℕ) → k < 4 → i < k → v ≡ putLane u k xs → lane i v n ≡ lane i u n
+  stays u v xs k i a b e = ap (λ (z : List ℕ). lane i z n) e ∙ apart u k i n xs a (omega arith) (λ f. omega arith)
+
+  len0 : length s0 ≡ length s
+  len0 = ap length e0 ∙ length-put s 0 x0
+
+  len1 : length s1 ≡ length s
+  len1 = ap length e1 ∙ length-put s0 1 x1 ∙ len0
+
+  len2 : length s2 ≡ length s
+  len2 = ap length e2 ∙ length-put s1 2 x2 ∙ len1
+
+  pub length-four : length s3 ≡ length s
+  length-four = ap length e3 ∙ length-put s2 3 x3 ∙ len2
+
+  pub lanes-four : (lane 0 s3 n ≡ x0) × (lane 1 s3 n ≡ x1) × (lane 2 s3 n ≡ x2) × (lane 3 s3 n ≡ x3)
+  lanes-four =
+      let three : (i : ℕ) → i < 3 → lane i s3 n ≡ lane i s2 n = λ i h. stays s2 s3 x3 3 i (omega arith) h e3 in
+      let two : (i : ℕ) → i < 2 → lane i s2 n ≡ lane i s1 n = λ i h. stays s1 s2 x2 2 i (omega arith) h e2 in (
+        three 0 (omega arith) ∙ two 0 (omega arith) ∙ stays s0 s1 x1 1 0 (omega arith) (omega arith) e1 ∙ after s s0 x0 0 (omega arith) l0 l e0,
+        three 1 (omega arith) ∙ two 1 (omega arith) ∙ after s0 s1 x1 1 (omega arith) l1 (omega (arith, len0)) e1,
+        three 2 (omega arith) ∙ after s1 s2 x2 2 (omega arith) l2 (omega (arith, len1)) e2,
+        after s2 s3 x3 3 (omega arith) l3 (omega (arith, len2)) e3,
+      )
 
 pub length-each : (n : ℕ) (f : ℕ → List ℕ → List ℕ) (k : ℕ) (s : List ℕ) → length (each n f k s) ≡ length s
 unfolding each
