@@ -27,7 +27,8 @@ use Rattle.scheme.proofs.TableLaws.{Filled, filled-step, filled-end, records-sa
 use Rattle.scheme.proofs.RecordLaws.{record-long}
 use Rattle.scheme.proofs.TokenLaws.{length-digest}
 use Rattle.standard.specs.Standard.{standard}
-use Rattle.tokens.specs.Keyed.{Keyed, Laid, tokenKey}
+use Rattle.tokens.specs.Keyed.{Keyed, tokenKey}
+use Rattle.digests.specs.Layout.{Laid}
 use Rattle.tokens.specs.declared.Keys.{Keys}
 use Rattle.tokens.proofs.TokenKeys.{draw-key, hash-key}
 use Rattle.audits.proofs.AuditLaws.{kept, done}

@@ -1,6 +1,6 @@
 -- Laws of tokens: what a change of a block does to a token, and what loops over columns and positions hold. Assumes nothing.
 --   length-hash .. length-digest             32 bytes
---   rowFrom                                  the columns of a row from one up: row-from-none, row-from-step, row-from-all
+--   row-from-none, row-from-step, row-from-all   the columns of a row from one up
 --   digest-more                              one more position
 --   digest-replaced, digest-added            the digest after a block is replaced or added
 use Prim.Native.Nat.{ℕ, suc, _+_, _*_, _-_, _/_, _%_, _≤_, _<_}
@@ -18,8 +18,8 @@ use Rattle.octets.specs.Octets.{xors}
 use Rattle.octets.proofs.XorLaws.{xors-comm, xors-assoc, xors-undo}
 use Rattle.scheme.specs.Lists.{xorBelow}
 use Rattle.scheme.specs.Primitives.{Primitives}
-use Rattle.scheme.specs.Tokens.{rowOf, columnOf, blockIn, columnsOf, blockAt, indexOf, replaced, added, blockHash, columnHash, drawnRow, positionOf, rowDigest, digest, mixed, changedDigest}
-use Rattle.scheme.proofs.SumLaws.{xorFrom, length-xor-below, xor-below-more, xor-below-same, xor-below-change, xor-from-none, xor-from-step, xor-from-all}
+use Rattle.scheme.specs.Tokens.{rowOf, columnOf, blockIn, columnsOf, blockAt, indexOf, replaced, added, blockHash, columnHash, drawnRow, positionOf, rowDigest, rowFrom, digest, mixed, changedDigest}
+use Rattle.scheme.proofs.SumLaws.{length-xor-below, xor-below-more, xor-below-same, xor-below-change, xor-from-none, xor-from-step, xor-from-all}
 use Rattle.scheme.proofs.GeometryLaws.{in-column, in-blocks, more-here, more-there, only-row, only-column}
 
 one-back : (a : ℕ) → a + 1 - 1 ≡ a
@@ -43,22 +43,18 @@ module _ (P : Primitives) where
   unfolding digest
   length-digest k c d r blocks = length-xor-below _ (λ j. length-row c d _ _ blocks) r
 
-  -- the columns of a row from q up
-  unfoldable pub rowFrom : List ℕ → ℕ → ℕ → ℕ → List (List ℕ) → ℕ → List ℕ
-  rowFrom c d ρ j blocks q = xorFrom (columnsOf d (length blocks) ρ - q) q (columnHash P c d ρ j blocks)
-
   module _ (c : List ℕ) (d ρ j : ℕ) (blocks : List (List ℕ)) where
-    pub row-from-none : rowFrom c d ρ j blocks (columnsOf d (length blocks) ρ) ≡ replicate 32 0
+    pub row-from-none : rowFrom P c d ρ j blocks (columnsOf d (length blocks) ρ) ≡ replicate 32 0
     unfolding rowFrom
     row-from-none = xor-from-none (columnHash P c d ρ j blocks) (columnsOf d (length blocks) ρ) (columnsOf d (length blocks) ρ) (omega arith)
 
     -- from q up it is that from q + 1 up with column q's hash
     pub row-from-step : (q : ℕ) → q < columnsOf d (length blocks) ρ
-        → rowFrom c d ρ j blocks q ≡ xors (rowFrom c d ρ j blocks (q + 1)) (columnHash P c d ρ j blocks q)
+        → rowFrom P c d ρ j blocks q ≡ xors (rowFrom P c d ρ j blocks (q + 1)) (columnHash P c d ρ j blocks q)
     unfolding rowFrom
     row-from-step q h = xor-from-step (columnHash P c d ρ j blocks) (columnsOf d (length blocks) ρ) q h
 
-    pub row-from-all : rowFrom c d ρ j blocks 0 ≡ rowDigest P c d ρ j blocks
+    pub row-from-all : rowFrom P c d ρ j blocks 0 ≡ rowDigest P c d ρ j blocks
     unfolding rowFrom rowDigest
     row-from-all =
         let z : columnsOf d (length blocks) ρ - 0 ≡ columnsOf d (length blocks) ρ = omega arith in

@@ -3,7 +3,7 @@ use mathlib.Core.Path.{_≡_}
 use Rattle.scheme.specs.Tokens.{rowOf, positionOf}
 use Rattle.standard.specs.Standard.{standard}
 use Rattle.tokens.specs.Keyed.{tokenKey, changeOf}
-use Rattle.tokens.proofs.TurnLaws.{position-drawn, undrawn, drawn}
+use Rattle.tokens.proofs.ChangeLaws.{position-drawn, undrawn, drawn}
 use borrow.Author.Needs.{needs}
 use Rattle.tokens.proofs.changed.Statement.{statement}
 use Rattle.tokens.proofs.changed.Tie as tie

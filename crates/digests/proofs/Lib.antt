@@ -1,0 +1,5 @@
+mod BlockLaws
+mod TurnLaws
+mod MessageLaws
+mod LaneLaws
+mod FourLaws

@@ -1,0 +1,39 @@
+-- How blocks lie in a buffer, and messages to be hashed. Assumes nothing.
+--   Laid d B n blocks           blocks holds n blocks of B bytes, in d rows, within the limits
+--   Row d ρ                     ρ is one of d rows
+--   Message c B m               m has the key c in front, and room for an index and a block of B bytes behind it
+--   Seat d ρ q B blocks m       the block in row ρ and column q, of d rows, lies in blocks, and m has room for it
+--   said d ρ j q B blocks m     what is hashed of it at position j, behind the key in m
+use Prim.Native.Nat.{ℕ, _+_, _*_, _-_, _≤_}
+use mathlib.Core.List.{List, _++_}
+use mathlib.Core.Path.{_≡_}
+use lib.ListN.{length, take}
+use Rattle.octets.specs.Octets.{be, part}
+use Rattle.scheme.specs.Tokens.{blockIn, indexOf}
+
+-- "B, bytes in a block | 1 | 4,096", "d, rows | 1 | 1,048,576", "n, blocks | d | 16,777,216", as far as the code asks for them
+pub record Laid (d B n : ℕ) (blocks : List ℕ) : Type 0 where
+  pub rowed : 1 ≤ d
+  pub few-rows : d ≤ 1048576
+  pub small : B ≤ 4096
+  pub few : n ≤ 16777216
+  pub whole : length blocks ≡ n * B
+
+pub record Row (d ρ : ℕ) : Type 0 where
+  pub from-one : 1 ≤ ρ
+  pub most : ρ ≤ d
+
+pub record Message (c : List ℕ) (B : ℕ) (m : List ℕ) : Type 0 where
+  pub key : take 32 m ≡ c
+  pub long : length m ≡ 36 + B
+
+pub record Seat (d ρ q B : ℕ) (blocks m : List ℕ) : Type 0 where
+  pub from-one : 1 ≤ ρ
+  pub few : q * d + ρ ≤ 16777216
+  pub small : B ≤ 4096
+  pub inside : (q * d + ρ) * B ≤ length blocks
+  pub room : length m ≡ 36 + B
+
+-- "SHA-256(c, column × d + j as four bytes, block)"
+unfoldable pub said : ℕ → ℕ → ℕ → ℕ → ℕ → List ℕ → List ℕ → List ℕ
+said d ρ j q B blocks m = take 32 m ++ be 4 (indexOf d q j) ++ part ((blockIn d ρ q - 1) * B) B blocks
