@@ -1,6 +1,27 @@
-# make test    the gate: proves every crate, tries the edits that must be refused, runs the programs
-# make prove   proves every crate that changed since it was last proved, and runs the programs
-.PHONY: test prove
+# make lib                the archive and its header in target/legbaro
+# make install PREFIX=    header, archive and pkg-config file below PREFIX, /usr/local where none is given
+# make test               the gate: proves every crate, tries the edits that must be refused, runs the programs
+# make prove              proves every crate that changed since it was last proved, and runs the programs
+.PHONY: lib install test prove
+
+PREFIX ?= /usr/local
+LIB := target/legbaro
+
+lib: $(LIB)/liblegbaro.a $(LIB)/legbaro.h
+	@echo "$(LIB)/liblegbaro.a: $$(wc -c < $(LIB)/liblegbaro.a) bytes"
+
+$(LIB)/liblegbaro.a: crates.txt $(shell find crates -type f)
+	rt staticlib legbaro
+	install -D -m 644 target/staticlib/liblegbaro.a $@
+
+$(LIB)/legbaro.h: include/legbaro.h
+	install -D -m 644 $< $@
+
+install: lib
+	install -D -m 644 $(LIB)/legbaro.h $(DESTDIR)$(PREFIX)/include/legbaro.h
+	install -D -m 644 $(LIB)/liblegbaro.a $(DESTDIR)$(PREFIX)/lib/liblegbaro.a
+	install -d $(DESTDIR)$(PREFIX)/lib/pkgconfig
+	sed 's|@PREFIX@|$(abspath $(PREFIX))|' legbaro.pc.in > $(DESTDIR)$(PREFIX)/lib/pkgconfig/legbaro.pc
 
 test:
 	@tools/gate
