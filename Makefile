@@ -1,11 +1,16 @@
 # make lib                the archive and its header in target/legbaro
 # make install PREFIX=    header, archive and pkg-config file below PREFIX, /usr/local where none is given
-# make test               the gate: proves every crate, tries the edits that must be refused, runs the programs
+# make test               the gate: proves every crate, tries the edits that must be refused, runs the programs and the C tests
+# make compare            the C tests alone: the library against the second implementation
 # make prove              proves every crate that changed since it was last proved, and runs the programs
-.PHONY: lib install test prove
+.PHONY: lib install test compare prove
 
 PREFIX ?= /usr/local
+CFLAGS ?= -O2
 LIB := target/legbaro
+OUT := target/c
+COMPILE = $(CC) -std=c99 -pedantic -Wall -Wextra $(CFLAGS) -I$(LIB) -Itests
+LINK = -L$(LIB) -llegbaro
 
 lib: $(LIB)/liblegbaro.a $(LIB)/legbaro.h
 	@echo "$(LIB)/liblegbaro.a: $$(wc -c < $(LIB)/liblegbaro.a) bytes"
@@ -25,6 +30,14 @@ install: lib
 
 test:
 	@tools/gate
+
+compare: $(OUT)/tests
+	$(OUT)/tests
+
+$(OUT)/tests: $(wildcard tests/*.c tests/*.h) $(LIB)/liblegbaro.a $(LIB)/legbaro.h
+	@tools/needs cc libcrypto
+	@mkdir -p $(OUT)
+	$(COMPILE) $(filter %.c,$^) -o $@ $(LINK) -lcrypto
 
 prove:
 	rt check
