@@ -1,9 +1,10 @@
+# make week               one file's week on real files, told step by step: examples/week.c
 # make lib                the archive and its header in target/legbaro
 # make install PREFIX=    header, archive and pkg-config file below PREFIX, /usr/local where none is given
 # make test               the gate: proves every crate, tries the edits that must be refused, runs the programs and the C tests
 # make compare            the C tests alone: the library against the second implementation
 # make prove              proves every crate that changed since it was last proved, and runs the programs
-.PHONY: lib install test compare prove
+.PHONY: week lib install test compare prove
 
 PREFIX ?= /usr/local
 CFLAGS ?= -O2
@@ -11,6 +12,14 @@ LIB := target/legbaro
 OUT := target/c
 COMPILE = $(CC) -std=c99 -pedantic -Wall -Wextra $(CFLAGS) -I$(LIB) -Itests
 LINK = -L$(LIB) -llegbaro
+
+week: $(OUT)/week
+	@$(OUT)/week
+
+$(OUT)/week: examples/week.c $(LIB)/liblegbaro.a $(LIB)/legbaro.h
+	@tools/needs cc
+	@mkdir -p $(OUT)
+	$(COMPILE) $< -o $@ $(LINK)
 
 lib: $(LIB)/liblegbaro.a $(LIB)/legbaro.h
 	@echo "$(LIB)/liblegbaro.a: $$(wc -c < $(LIB)/liblegbaro.a) bytes"
@@ -32,7 +41,7 @@ test:
 	@tools/gate
 
 compare: $(OUT)/tests
-	$(OUT)/tests
+	@$(OUT)/tests
 
 $(OUT)/tests: $(wildcard tests/*.c tests/*.h) $(LIB)/liblegbaro.a $(LIB)/legbaro.h
 	@tools/needs cc libcrypto
