@@ -3,15 +3,17 @@
 # make install PREFIX=    header, archive and pkg-config file below PREFIX, /usr/local where none is given
 # make test               the gate: proves every crate, tries the edits that must be refused, runs the programs and the C tests
 # make compare            the C tests alone: the library against the second implementation
+# make bench              times the library against the second implementation; the table of docs/PERFORMANCE.md
 # make prove              proves every crate that changed since it was last proved, and runs the programs
-.PHONY: week lib install test compare prove
+.PHONY: week lib install test compare bench prove
 
 PREFIX ?= /usr/local
 CFLAGS ?= -O2
 LIB := target/legbaro
 OUT := target/c
-COMPILE = $(CC) -std=c99 -pedantic -Wall -Wextra $(CFLAGS) -I$(LIB) -Itests
+COMPILE = $(CC) -std=c99 -pedantic -Wall -Wextra $(CFLAGS) -I$(LIB)
 LINK = -L$(LIB) -llegbaro
+SHARED := $(addprefix tests/,second.c book.c calls.c files.c buffers.c chance.c groups.c)
 
 week: $(OUT)/week
 	@$(OUT)/week
@@ -47,6 +49,14 @@ $(OUT)/tests: $(wildcard tests/*.c tests/*.h) $(LIB)/liblegbaro.a $(LIB)/legbaro
 	@tools/needs cc libcrypto
 	@mkdir -p $(OUT)
 	$(COMPILE) $(filter %.c,$^) -o $@ $(LINK) -lcrypto
+
+bench: $(OUT)/bench
+	@$(OUT)/bench
+
+$(OUT)/bench: bench/bench.c $(SHARED) $(wildcard tests/*.h) $(LIB)/liblegbaro.a $(LIB)/legbaro.h
+	@tools/needs cc libcrypto
+	@mkdir -p $(OUT)
+	$(COMPILE) -Itests $(filter %.c,$^) -o $@ $(LINK) -lcrypto
 
 prove:
 	rt check
