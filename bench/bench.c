@@ -1,9 +1,9 @@
 /*
- * Times set-up, update and proof against the second implementation over libcrypto, and prints a table that can be pasted into
- * docs/PERFORMANCE.md. In each case the two alternate, and the best time of each counts. What they write is compared too.
+ * Times set-up, update and proof against the second implementation over libcrypto, and prints tables that can be pasted into
+ * docs/PERFORMANCE.md. What the two write is compared first.
  *
- * libcrypto uses the processor's SHA instructions where it has them. So the program runs itself once more, with --numbers, with these
- * switched off in libcrypto, and the table has both.
+ * libcrypto uses the processor's SHA instructions where it has them. So the program runs itself once more, as a helper with these switched
+ * off in libcrypto, and asks it for the third time of each row. In each row the three alternate, one at a time, and the best of each counts.
  */
 #define _XOPEN_SOURCE 700
 #include "chance.h"
@@ -16,11 +16,13 @@
 #include <stdlib.h>
 #include <string.h>
 #include <time.h>
+#include <unistd.h>
 
-enum { SEED = 20261115, TURNS = 7, SHORTEST_NS = 20000000 };
+enum { SEED = 20261115, TURNS = 25, SHORTEST_NS = 4000000 };
 
-/* OpenSSL's switch: without the SHA extensions. */
-#define WITHOUT_SHA "OPENSSL_ia32cap=:~0x20000000"
+/* OpenSSL's switch for what it takes the processor to have, and its value without the SHA instructions. */
+#define SWITCH "OPENSSL_ia32cap"
+#define WITHOUT_SHA ":~0x20000000"
 
 /* What is timed: t tokens for set-up and update, n blocks for a proof. */
 struct measure {
@@ -29,7 +31,7 @@ struct measure {
     uint64_t B, d, r, t, n;
 };
 
-enum { T_SET_UP = 16, T_UPDATE = 64 };
+enum { T_SET_UP = 4, T_UPDATE = 64 };
 
 /* The three calls at one size. */
 #define CALLS(title, B, d, r)                                                                                                  \
@@ -52,15 +54,15 @@ static const struct measure measures[] = {
     {NULL, PROVE, 1024, 4096, 64, 1, 6144},
     {NULL, PROVE, 1024, 4096, 64, 1, 16384},
     {NULL, PROVE, 1024, 4096, 64, 1, 40960},
-    {"Growth with t, the tokens: set-up and update", SET_UP, 64, 4096, 64, 16, 4096},
+    {"Growth with t, the tokens: set-up and update", SET_UP, 64, 4096, 64, 4, 4096},
+    {NULL, SET_UP, 64, 4096, 64, 16, 4096},
     {NULL, SET_UP, 64, 4096, 64, 64, 4096},
-    {NULL, SET_UP, 64, 4096, 64, 256, 4096},
     {NULL, UPDATE, 64, 4096, 64, 16, 4096},
     {NULL, UPDATE, 64, 4096, 64, 64, 4096},
     {NULL, UPDATE, 64, 4096, 64, 256, 4096},
-    {"Growth with r, the positions: set-up and proof", SET_UP, 64, 4096, 16, 16, 4096},
-    {NULL, SET_UP, 64, 4096, 64, 16, 4096},
-    {NULL, SET_UP, 64, 4096, 256, 16, 4096},
+    {"Growth with r, the positions: set-up and proof", SET_UP, 64, 4096, 16, T_SET_UP, 4096},
+    {NULL, SET_UP, 64, 4096, 64, T_SET_UP, 4096},
+    {NULL, SET_UP, 64, 4096, 256, T_SET_UP, 4096},
     {NULL, PROVE, 64, 4096, 16, 1, 4096},
     {NULL, PROVE, 64, 4096, 64, 1, 4096},
     {NULL, PROVE, 64, 4096, 256, 1, 4096},
@@ -72,9 +74,9 @@ static const struct measure measures[] = {
 
 enum { MEASURES = sizeof measures / sizeof *measures };
 
-/* Nanoseconds for one call: the library's, and the second implementation's. */
+/* Nanoseconds for one call: of the library, of the second implementation, and of that without SHA instructions. */
 struct times {
-    double ours, theirs;
+    double ours, theirs, without;
 };
 
 /* A proof of n blocks, which need not be those of the file that the message is drawn from. */
@@ -137,18 +139,81 @@ static double least(double a, double b)
     return a < b ? a : b;
 }
 
-/* Compares what the two write, then times them in turn. */
-static struct times measure(const struct measure *m)
+/* ---- The helper ---- */
+
+static FILE *questions, *answers;
+
+/* Ends the program where a step that must succeed did not. */
+static void must(int done)
 {
+    if (!done) {
+        fputs("bench: the run without SHA instructions failed\n", stderr);
+        exit(1);
+    }
+}
+
+/* Starts this program once more, without SHA instructions. */
+static void helper_start(const char *program)
+{
+    int there[2], back[2];
+    must(pipe(there) == 0 && pipe(back) == 0);
+    pid_t child = fork();
+    must(child >= 0);
+    if (child == 0) {
+        must(dup2(there[0], STDIN_FILENO) >= 0 && dup2(back[1], STDOUT_FILENO) >= 0);
+        must(close(there[1]) == 0 && close(back[0]) == 0);
+        must(setenv(SWITCH, WITHOUT_SHA, 1) == 0);
+        execl(program, program, "--helper", (char *)NULL);
+        must(0);
+    }
+    must(close(there[0]) == 0 && close(back[1]) == 0);
+    questions = fdopen(there[1], "w");
+    answers = fdopen(back[0], "r");
+    must(questions && answers);
+}
+
+/* The helper's time for so many calls of a row. */
+static double helper_timed(int row, unsigned calls)
+{
+    double time;
+    must(fprintf(questions, "%d %u\n", row, calls) > 0 && fflush(questions) == 0);
+    must(fscanf(answers, "%lf", &time) == 1);
+    return time;
+}
+
+/* What the helper does: it answers every question. */
+static void help(void)
+{
+    struct call call = {.kind = SET_UP};
+    int asked, row = -1;
+    unsigned calls;
+    while (scanf("%d %u", &asked, &calls) == 2) {
+        if (asked != row) {
+            call_free(&call);
+            row = asked;
+            call = measured_call(&measures[row]);
+        }
+        printf("%f\n", timed(call_second, &call, &measures[row], calls));
+        fflush(stdout);
+    }
+    call_free(&call);
+}
+
+/* ---- The tables ---- */
+
+/* Compares what the library and the second implementation write, then times all three in turn. */
+static struct times measure(int row)
+{
+    const struct measure *m = &measures[row];
     struct call compared = measured_call(m);
     struct call ours = call_copy(&compared), theirs = call_copy(&compared);
     call_expect(&compared, LEGBARO_OK, "accepted");
-    double once = timed(call_library, &ours, m, 1);
-    unsigned calls = 1 + (unsigned)(SHORTEST_NS / once);
-    struct times best = {once, timed(call_second, &theirs, m, 1)};
+    struct times best = {timed(call_library, &ours, m, 1), timed(call_second, &theirs, m, 1), helper_timed(row, 1)};
+    unsigned calls = 1 + (unsigned)(SHORTEST_NS / best.ours);
     for (int turn = 0; turn < TURNS; turn++) {
         best.ours = least(best.ours, timed(call_library, &ours, m, calls));
         best.theirs = least(best.theirs, timed(call_second, &theirs, m, calls));
+        best.without = least(best.without, helper_timed(row, calls));
     }
     call_free(&compared);
     call_free(&ours);
@@ -179,64 +244,37 @@ static void print_heading(const struct measure *m)
     puts("|---|---|---|---|---|---|---|---|---|---|---|");
 }
 
-static void print_row(const struct measure *m, struct times with, struct times without)
+static void print_row(const struct measure *m, struct times t)
 {
     print_heading(m);
     printf("| %s | %llu | %llu | %llu | %llu | %llu | %.1f | %.1f | %.2f | %.1f | %.2f |\n", call_name(m->kind),
            (unsigned long long)m->B, (unsigned long long)m->d, (unsigned long long)m->r, (unsigned long long)m->t,
-           (unsigned long long)m->n, with.ours / 1e3, with.theirs / 1e3, with.ours / with.theirs, without.theirs / 1e3,
-           without.ours / without.theirs);
+           (unsigned long long)m->n, t.ours / 1e3, t.theirs / 1e3, t.ours / t.theirs, t.without / 1e3, t.ours / t.without);
     fflush(stdout);
 }
 
-/* The times of a run of this program that does the same without SHA instructions. */
-static void measure_without(const char *program, struct times *without)
+static void print_tables(void)
 {
-    char command[1024];
-    char line[128];
-    int lines = 0;
-    snprintf(command, sizeof command, WITHOUT_SHA " '%s' --numbers", program);
-    FILE *other = popen(command, "r");
-    while (other && fgets(line, sizeof line, other))
-        if (lines < MEASURES && sscanf(line, "%lf %lf", &without[lines].ours, &without[lines].theirs) == 2)
-            lines++;
-    if (!other || pclose(other) != 0 || lines != MEASURES) {
-        fputs("bench: the run without SHA instructions failed\n", stderr);
-        exit(1);
-    }
-}
-
-static void print_tables(const char *program)
-{
-    static struct times without[MEASURES];
     print_processor();
     printf("%s\n", OpenSSL_version(OPENSSL_VERSION));
-    fflush(stdout);
-    measure_without(program, without);
-    for (int i = 0; i < MEASURES; i++)
-        print_row(&measures[i], measure(&measures[i]), without[i]);
+    for (int row = 0; row < MEASURES; row++)
+        print_row(&measures[row], measure(row));
     putchar('\n');
-}
-
-/* The times alone, a line for each case. */
-static void print_numbers(void)
-{
-    for (int i = 0; i < MEASURES; i++) {
-        struct times t = measure(&measures[i]);
-        printf("%f %f\n", t.ours, t.theirs);
-    }
 }
 
 int main(int count, char **words)
 {
+    int helper = count == 2 && !strcmp(words[1], "--helper");
     chance_start(SEED);
     second_start();
-    group_begin("equal results of the library and the second implementation");
-    if (count == 2 && !strcmp(words[1], "--numbers"))
-        print_numbers();
-    else
-        print_tables(words[0]);
-    group_end();
+    group_begin("the library and the second implementation write the same");
+    if (helper)
+        help();
+    else {
+        helper_start(words[0]);
+        print_tables();
+        group_end();
+    }
     second_end();
-    return groups_passed() ? 0 : 1;
+    return helper || groups_passed() ? 0 : 1;
 }
