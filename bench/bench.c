@@ -15,6 +15,7 @@
 #include <stdio.h>
 #include <stdlib.h>
 #include <string.h>
+#include <sys/wait.h>
 #include <time.h>
 #include <unistd.h>
 
@@ -181,6 +182,14 @@ static double helper_timed(int row, unsigned calls)
     return time;
 }
 
+/* Ends the helper, which has no more questions to answer. */
+static void helper_end(void)
+{
+    int status;
+    must(fclose(questions) == 0 && fclose(answers) == 0);
+    must(wait(&status) > 0 && status == 0);
+}
+
 /* What the helper does: it answers every question. */
 static void help(void)
 {
@@ -273,6 +282,7 @@ int main(int count, char **words)
     else {
         helper_start(words[0]);
         print_tables();
+        helper_end();
         group_end();
     }
     second_end();

@@ -1,5 +1,5 @@
 /* The second implementation. See second.h. */
-#define OPENSSL_SUPPRESS_DEPRECATED /* for SHA256_* and HMAC_*, which are libcrypto's quickest */
+#define OPENSSL_SUPPRESS_DEPRECATED /* for SHA256_* and HMAC_* */
 #include "second.h"
 
 #include <openssl/evp.h>

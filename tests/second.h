@@ -1,6 +1,6 @@
 /*
- * A second implementation of the calls, over OpenSSL's libcrypto, to compare the library with. It is written from paper 01 alone and
- * takes the paper's letters: B bytes in a block, d rows, r positions, t tokens, n blocks.
+ * A second implementation of the calls, over OpenSSL's libcrypto, to compare the library with. It follows paper 01's text, shares no code
+ * with the library, and takes the paper's letters: B bytes in a block, d rows, r positions, t tokens, n blocks.
  *
  *   second_start, second_end                the contexts of libcrypto that all else here uses
  *   second_set_up .. second_prove           the seven calls, with the arguments of legbaro.h
