@@ -3,7 +3,7 @@
  * docs/PERFORMANCE.md. What the two write is compared first.
  *
  * libcrypto uses the processor's SHA instructions where it has them. So the program runs itself once more, as a helper with these switched
- * off in libcrypto, and asks it for the third time of each row. In each row the three alternate, one at a time, and the best of each counts.
+ * off in libcrypto, and asks it for the third time of each row. In each row the three alternate, and the best of each counts.
  */
 #define _XOPEN_SOURCE 700
 #include "chance.h"

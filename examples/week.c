@@ -1,9 +1,9 @@
 /*
  * One file's week: a car park's occupancy samples go to a storage host, one block a tick, and the host is audited.
  *
- * Owner and host are two folders of real files in a temporary folder. Functions named owner_ read the owner's files, and fetch from the host
- * what an owner would fetch. Functions named host_ read the host's files alone. The program ends with status 0 where every step came out
- * as a planner expects it.
+ * Owner and host are two folders of real files in a temporary folder. Functions named owner_ read the owner's files, and fetch from the
+ * host what an owner would fetch. Functions named host_ read the host's files alone. The program ends with status 0 where every step
+ * came out as a planner expects it.
  */
 #define _XOPEN_SOURCE 700
 #include "legbaro.h"

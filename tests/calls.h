@@ -1,4 +1,4 @@
-/* One call as a value: which it is, its numbers and the buffers lent to it. It can be run on the library and on the second implementation. */
+/* One call as a value: which it is, its numbers and the buffers lent to it. The library and the second implementation can run it. */
 #ifndef CALLS_H
 #define CALLS_H
 

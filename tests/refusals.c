@@ -63,7 +63,7 @@ static void small_calls(struct file *file)
     refused(file, APPEND, LEGBARO_TOKEN_OPEN, "draw, append");
 }
 
-/* What the paper says is taken: r 5 with d 5; t = 1 allows one draw; a table for a proof that is longer than it need be, or just long enough. */
+/* What is taken: r 5 with d 5; t = 1 allows one draw; for a proof, a table that is just long enough or longer. */
 static void taken(void)
 {
     struct file file = file_set_up(B, 5, 5, 1);

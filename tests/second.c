@@ -247,7 +247,8 @@ unsigned second_half_width(uint64_t d)
     return b <= 2 ? 1 : (b + 1) / 2;
 }
 
-/* "the low h bits of the first four bytes, little-endian, of the ChaCha20 block with .. block counter R, nonce eleven zero bytes and then q" */
+/* "F is the low h bits of the first four bytes, little-endian, of the ChaCha20 block with that key, block counter R, nonce eleven zero
+ * bytes and then q" */
 static uint64_t round_word(uint64_t R, uint8_t q, unsigned h)
 {
     uint8_t counter_and_nonce[4 + NONCE_BYTES] = {(uint8_t)R, (uint8_t)(R >> 8), (uint8_t)(R >> 16), (uint8_t)(R >> 24)};
