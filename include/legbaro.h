@@ -1,0 +1,209 @@
+/*
+ * Legbaro: provable data possession of a car park's tick file.
+ *
+ * The owner keeps a 32-byte master key and a 43-byte card. The host keeps the file's blocks and a table of sealed tokens.
+ *
+ *   set up    the owner cuts the file into d blocks and gets a card and a table; blocks and table go to the host
+ *   change    the owner fetches the table (and the block that changes), updates, deletes or appends, and sends the table back
+ *   audit     the owner draws a message and sends it; the host proves, with a reply; the owner judges the reply
+ *
+ * A block has B bytes. Blocks are numbered from 1 and lie in d rows: block m in row ((m-1) mod d) + 1, column (m-1) div d.
+ * A token draws r of the d rows, and covers every block in them. Each audit spends one of the t tokens.
+ *
+ * RESULT. Every call returns code + 256 * token. The code is 0 for an accepted call, and token is 0 except with LEGBARO_BAD_RECORD.
+ * A call that is turned away (any code but 0 and LEGBARO_REJECTED) leaves every buffer as it was. The codes of each call stand
+ * below in the order in which they are tested: of several faults the first is told.
+ *
+ * BUFFERS. A buffer is a pointer and its length in bytes. What the caller owes, and nothing checks:
+ *   - the pointer has as many bytes as the length says, to be read, and to be written where the call writes them;
+ *   - the pointer is not null, for an empty buffer too;
+ *   - no two buffers of one call overlap, and no other thread writes them during the call.
+ * Lengths are the library's to check: any length may be passed, and a wrong one is turned away.
+ *
+ * KEYS AND CARDS. What the owner owes, and the library can't check:
+ *   - a master and a file id are set up once only. A second set-up would seal other tokens under the same nonces, and who sees both
+ *     tables can read tokens. The master is 32 random bytes, and the host never sees it.
+ *   - a card that a call has written takes the place of the one before. An older copy must not be used again, for the same reason.
+ *   - the old block handed to an update or a deletion is the one the file holds. Other bytes are taken as they are, and then the
+ *     tokens that cover the block no longer fit the file.
+ *
+ * The library keeps nothing between calls, allocates nothing, and needs less than 16 KB of stack. Calls on separate buffers may run at
+ * the same time. It is compiled for x86-64. Time and other side channels are not covered.
+ */
+#ifndef LEGBARO_H
+#define LEGBARO_H
+
+#include <stddef.h>
+#include <stdint.h>
+
+#ifdef __cplusplus
+extern "C" {
+#endif
+
+/* Sizes in bytes. A table has LEGBARO_RECORD_BYTES for each token. */
+#define LEGBARO_MASTER_BYTES 32
+#define LEGBARO_ID_BYTES 8
+#define LEGBARO_CARD_BYTES 43
+#define LEGBARO_RECORD_BYTES 63
+#define LEGBARO_MESSAGE_BYTES 91
+#define LEGBARO_REPLY_BYTES 110
+
+/* Limits. The least of every number is 1, but a file has at least as many blocks as rows, and the counter starts at 0. */
+#define LEGBARO_MOST_BLOCK_BYTES 4096 /* B */
+#define LEGBARO_MOST_ROWS 1048576     /* d */
+#define LEGBARO_MOST_POSITIONS 512    /* r, which is no more than d either */
+#define LEGBARO_MOST_TOKENS 65536     /* t */
+#define LEGBARO_MOST_BLOCKS 16777216  /* n */
+#define LEGBARO_MOST_COUNTER 4294967295u
+
+/* Codes. */
+#define LEGBARO_OK 0
+#define LEGBARO_WRONG_LENGTH 1     /* a buffer has another length than the call asks */
+#define LEGBARO_WRONG_HEADER 2     /* the length field or the version of the card or the message is wrong */
+#define LEGBARO_OUT_OF_LIMITS 3    /* a field of the card or the message, or a number lent, is outside its limits */
+#define LEGBARO_NO_SUCH_BLOCK 4    /* the block number is 0 or above n */
+#define LEGBARO_FILE_FULL 5        /* append to a file with LEGBARO_MOST_BLOCKS */
+#define LEGBARO_NO_TOKEN_LEFT 6    /* draw after the last token */
+#define LEGBARO_BAD_RECORD 7       /* an unused record does not open; its token number comes with the code */
+#define LEGBARO_TOKEN_OPEN 8       /* change or draw while a drawn token is not judged */
+#define LEGBARO_NONE_OPEN 9        /* judge while no token is drawn */
+#define LEGBARO_COUNTER_AT_MOST 10 /* change with the counter at LEGBARO_MOST_COUNTER */
+#define LEGBARO_REJECTED 11        /* judge: the reply does not prove possession */
+
+/* The two parts of a result. */
+#define LEGBARO_CODE(result) ((result) % 256)
+#define LEGBARO_TOKEN(result) ((result) / 256)
+
+/*
+ * A card, for who wants to look into one: big-endian numbers, each at its offset.
+ * In front stand a two-byte length of what follows, 41, and version 1. Only the library writes cards.
+ */
+#define LEGBARO_CARD_ID 3           /* 8 bytes: the file id */
+#define LEGBARO_CARD_BLOCK_BYTES 11 /* 2 bytes: B */
+#define LEGBARO_CARD_ROWS 13        /* 4 bytes: d */
+#define LEGBARO_CARD_POSITIONS 17   /* 2 bytes: r */
+#define LEGBARO_CARD_TOKENS 19      /* 4 bytes: t */
+#define LEGBARO_CARD_BLOCKS 23      /* 4 bytes: n, the number of blocks */
+#define LEGBARO_CARD_COUNTER 27     /* 8 bytes: ctr, the number of changes */
+#define LEGBARO_CARD_NEXT 35        /* 4 bytes: the token to draw next, t + 1 after the last */
+#define LEGBARO_CARD_OPEN 39        /* 4 bytes: the token drawn and not judged, 0 for none */
+
+/*
+ * Set-up, the owner's: makes the card and the table of a new file.
+ *
+ *   master     LEGBARO_MASTER_BYTES
+ *   id         LEGBARO_ID_BYTES, the owner's name for the file
+ *   block_bytes, rows, positions, tokens   B, d, r and t; fixed for the life of the file
+ *   blocks     rows * block_bytes: the first blocks, one for each row, end to end
+ *   card       LEGBARO_CARD_BYTES, written: n = d, counter 0, next 1, none open
+ *   table      tokens * LEGBARO_RECORD_BYTES, written
+ *
+ * Codes: 1 (master, id, card), 3, 1 (blocks, table).
+ */
+uint64_t legbaro_set_up(const uint8_t *master, size_t master_length,
+                        const uint8_t *id, size_t id_length,
+                        uint64_t block_bytes, uint64_t rows, uint64_t positions, uint64_t tokens,
+                        const uint8_t *blocks, size_t blocks_length,
+                        uint8_t *card, size_t card_length,
+                        uint8_t *table, size_t table_length);
+
+/*
+ * Update, the owner's: block number `block` was old_block and becomes new_block. They may have equal bytes.
+ *
+ *   master     LEGBARO_MASTER_BYTES
+ *   card       LEGBARO_CARD_BYTES, written: the counter rises by 1
+ *   table      t * LEGBARO_RECORD_BYTES, written: every unused record, which is every one from next to t, is sealed again
+ *   block      1 to n
+ *   old_block  B bytes: the block as it is; zero bytes for a deleted one
+ *   new_block  B bytes
+ *
+ * Codes: 1 (master, card), 2, 3, 1 (table, old_block, new_block), 8, 4, 10, 7. With 7 comes the lowest unused token whose record does not
+ * open; records from that number on may be fetched again from the host.
+ */
+uint64_t legbaro_update(const uint8_t *master, size_t master_length,
+                        uint8_t *card, size_t card_length,
+                        uint8_t *table, size_t table_length,
+                        uint64_t block,
+                        const uint8_t *old_block, size_t old_block_length,
+                        const uint8_t *new_block, size_t new_block_length);
+
+/*
+ * Deletion, the owner's: block number `block` was old_block and becomes B zero bytes, which the host puts in its place. The number of
+ * blocks stays. A deleted block may be deleted or updated again.
+ *
+ *   master     LEGBARO_MASTER_BYTES
+ *   card       LEGBARO_CARD_BYTES, written as in an update
+ *   table      t * LEGBARO_RECORD_BYTES, written as in an update
+ *   block      1 to n
+ *   old_block  B bytes: the block as it is
+ *
+ * Codes: 1 (master, card), 2, 3, 1 (table, old_block), 8, 4, 10, 7 (as in an update).
+ */
+uint64_t legbaro_delete(const uint8_t *master, size_t master_length,
+                        uint8_t *card, size_t card_length,
+                        uint8_t *table, size_t table_length,
+                        uint64_t block,
+                        const uint8_t *old_block, size_t old_block_length);
+
+/*
+ * Append, the owner's: new_block comes behind the last block.
+ *
+ *   master     LEGBARO_MASTER_BYTES
+ *   card       LEGBARO_CARD_BYTES, written as in an update; n rises by 1 too
+ *   table      t * LEGBARO_RECORD_BYTES, written as in an update
+ *   new_block  B bytes
+ *
+ * Codes: 1 (master, card), 2, 3, 1 (table, new_block), 8, 5, 10, 7 (as in an update).
+ */
+uint64_t legbaro_append(const uint8_t *master, size_t master_length,
+                        uint8_t *card, size_t card_length,
+                        uint8_t *table, size_t table_length,
+                        const uint8_t *new_block, size_t new_block_length);
+
+/*
+ * Draw, the owner's: opens the next token and writes the message that challenges the host for it.
+ *
+ *   master     LEGBARO_MASTER_BYTES
+ *   card       LEGBARO_CARD_BYTES, written: next becomes open, and next rises by 1
+ *   message    LEGBARO_MESSAGE_BYTES, written
+ *
+ * Until the reply is judged no change and no further draw is accepted. The message holds the keys of this token alone.
+ * Codes: 1, 2, 3, 8, 6.
+ */
+uint64_t legbaro_draw(const uint8_t *master, size_t master_length,
+                      uint8_t *card, size_t card_length,
+                      uint8_t *message, size_t message_length);
+
+/*
+ * Judge, the owner's: 0 where the reply proves that the host holds the rows drawn as they are now, else LEGBARO_REJECTED.
+ *
+ *   master     LEGBARO_MASTER_BYTES
+ *   card       LEGBARO_CARD_BYTES, written by either verdict: no token is open
+ *   reply      what the host sent, of any length
+ *
+ * Codes: 1 (master, card), 2, 3, 9, then the verdict 0 or 11.
+ */
+uint64_t legbaro_judge(const uint8_t *master, size_t master_length,
+                       uint8_t *card, size_t card_length,
+                       const uint8_t *reply, size_t reply_length);
+
+/*
+ * Proof, the host's: writes the reply to a message.
+ *
+ *   message    LEGBARO_MESSAGE_BYTES, from the owner
+ *   blocks     n * B bytes: all blocks end to end
+ *   table      at least i * LEGBARO_RECORD_BYTES, where i is the message's token; the host lends it whole
+ *   reply      LEGBARO_REPLY_BYTES, written
+ *
+ * Codes: 1 (message, reply), 2, 3, 1 (blocks, table).
+ */
+uint64_t legbaro_prove(const uint8_t *message, size_t message_length,
+                       const uint8_t *blocks, size_t blocks_length,
+                       const uint8_t *table, size_t table_length,
+                       uint8_t *reply, size_t reply_length);
+
+#ifdef __cplusplus
+}
+#endif
+
+#endif

@@ -1,0 +1,121 @@
+/* See book.h. */
+#include "book.h"
+
+#include <stdio.h>
+#include <stdlib.h>
+#include <string.h>
+
+/* Room for so many bytes, with the bytes that `room` has; `room` may be null. */
+static uint8_t *resized(uint8_t *room, size_t length)
+{
+    room = realloc(room, length);
+    if (!room) {
+        fputs("tests: no memory\n", stderr);
+        exit(2);
+    }
+    return room;
+}
+
+static size_t table_bytes(const struct book *book)
+{
+    return book->numbers.t * LEGBARO_RECORD_BYTES;
+}
+
+/* "An accepted set-up starts it with the blocks taken, ctr 0, next 1, open 0 and no spent record." */
+struct book book_start(const struct call *set_up)
+{
+    struct book book = {
+        .numbers = {.B = set_up->B, .d = set_up->d, .r = set_up->r, .t = set_up->t, .n = set_up->d, .ctr = 0, .next = 1, .open = 0}};
+    memcpy(book.key, set_up->lent[MASTER].bytes, sizeof book.key);
+    memcpy(book.numbers.id, set_up->lent[ID].bytes, sizeof book.numbers.id);
+    book.blocks = resized(NULL, set_up->lent[BLOCKS].length);
+    memcpy(book.blocks, set_up->lent[BLOCKS].bytes, set_up->lent[BLOCKS].length);
+    book.spent = resized(NULL, table_bytes(&book));
+    return book;
+}
+
+void book_end(struct book *book)
+{
+    free(book->blocks);
+    free(book->spent);
+}
+
+const uint8_t *book_block(const struct book *book, uint64_t m)
+{
+    return book->blocks + (m - 1) * book->numbers.B;
+}
+
+void book_card(const struct book *book, uint8_t *card)
+{
+    second_write_card(card, &book->numbers);
+}
+
+/* "Its table is the spent records 1 to next - 1, then the fresh records next to t." */
+void book_table(const struct book *book, uint8_t *table)
+{
+    memcpy(table, book->spent, (book->numbers.next - 1) * LEGBARO_RECORD_BYTES);
+    second_fresh_records(book->key, &book->numbers, book->blocks, book->numbers.next, book->numbers.t, table);
+}
+
+/* "Turned away", read with the book's card and table and the call's other arguments; "7 never comes up". */
+static uint64_t turned_away(const struct book *book, const struct call *call)
+{
+    static const enum edit edits[] = {[UPDATE] = EDIT_UPDATE, [DELETE] = EDIT_DELETE, [APPEND] = EDIT_APPEND};
+    uint8_t card[LEGBARO_CARD_BYTES];
+    size_t master_length = call->lent[MASTER].length;
+    book_card(book, card);
+    switch (call->kind) {
+    case DRAW:
+        return second_draw_fault(master_length, card, sizeof card, call->lent[MESSAGE].length);
+    case JUDGE:
+        return second_judge_fault(master_length, card, sizeof card);
+    default:
+        return second_change_fault(edits[call->kind], master_length, card, sizeof card, table_bytes(book), call->m,
+                                   call->lent[OLD].length, call->lent[NEW].length);
+    }
+}
+
+/* "Update puts the new block under its number, delete puts B zero bytes there, append puts the new block at the end. Each adds 1 to ctr" */
+static void take_change(struct book *book, const struct call *call)
+{
+    struct card *numbers = &book->numbers;
+    uint64_t m = call->m;
+    if (call->kind == APPEND) {
+        m = ++numbers->n;
+        book->blocks = resized(book->blocks, numbers->n * numbers->B);
+    }
+    uint8_t *block = book->blocks + (m - 1) * numbers->B;
+    if (call->kind == DELETE)
+        memset(block, 0, numbers->B);
+    else
+        memcpy(block, call->lent[NEW].bytes, numbers->B);
+    numbers->ctr++;
+}
+
+/* "Draw keeps fresh record next as spent, sets open to next, then adds 1 to next" */
+static void take_draw(struct book *book)
+{
+    struct card *numbers = &book->numbers;
+    second_fresh_records(book->key, numbers, book->blocks, numbers->next, numbers->next, book->spent);
+    numbers->open = numbers->next;
+    numbers->next++;
+}
+
+uint64_t book_answer(struct book *book, const struct call *call)
+{
+    uint64_t answer = turned_away(book, call);
+    if (answer != LEGBARO_OK)
+        return answer;
+    switch (call->kind) {
+    case DRAW:
+        take_draw(book);
+        break;
+    case JUDGE:
+        answer = second_verdict(book->key, &book->numbers, call->lent[REPLY].bytes, call->lent[REPLY].length);
+        book->numbers.open = 0;
+        break;
+    default:
+        take_change(book, call);
+    }
+    return answer;
+}

@@ -1,0 +1,128 @@
+/* See calls.h. */
+#include "calls.h"
+
+#include "groups.h"
+#include "second.h"
+
+/* The buffers of each kind of call, a bit for each role, and those among them that it writes. */
+#define BIT(role) (1u << (role))
+#define CHANGE (BIT(MASTER) | BIT(CARD) | BIT(TABLE))
+
+static const struct {
+    const char *name;
+    unsigned takes, writes;
+} kinds[KINDS] = {
+    [SET_UP] = {"set-up", CHANGE | BIT(ID) | BIT(BLOCKS), BIT(CARD) | BIT(TABLE)},
+    [UPDATE] = {"update", CHANGE | BIT(OLD) | BIT(NEW), BIT(CARD) | BIT(TABLE)},
+    [DELETE] = {"delete", CHANGE | BIT(OLD), BIT(CARD) | BIT(TABLE)},
+    [APPEND] = {"append", CHANGE | BIT(NEW), BIT(CARD) | BIT(TABLE)},
+    [DRAW] = {"draw", BIT(MASTER) | BIT(CARD) | BIT(MESSAGE), BIT(CARD) | BIT(MESSAGE)},
+    [JUDGE] = {"judge", BIT(MASTER) | BIT(CARD) | BIT(REPLY), BIT(CARD)},
+    [PROVE] = {"prove", BIT(MESSAGE) | BIT(BLOCKS) | BIT(TABLE) | BIT(REPLY), BIT(REPLY)},
+};
+
+static const char *const roles[ROLES] = {"master", "id", "blocks", "card", "table", "old block", "new block", "message", "reply"};
+
+static unsigned long counts[KINDS][LEGBARO_REJECTED + 1];
+
+const char *call_name(enum kind kind)
+{
+    return kinds[kind].name;
+}
+
+int call_takes(enum kind kind, enum role role)
+{
+    return (kinds[kind].takes & BIT(role)) != 0;
+}
+
+struct call call_copy(const struct call *call)
+{
+    struct call other = *call;
+    for (int role = 0; role < ROLES; role++)
+        other.lent[role] = buffer_copy(&call->lent[role]);
+    return other;
+}
+
+void call_free(struct call *call)
+{
+    for (int role = 0; role < ROLES; role++)
+        buffer_free(&call->lent[role]);
+}
+
+/* A buffer as C passes it, and the whole dispatch, which differs only in the names of the functions. */
+#define LENT(role) call->lent[role].bytes, call->lent[role].length
+#define RUN(implementation)                                                                                            \
+    switch (call->kind) {                                                                                              \
+    case SET_UP:                                                                                                       \
+        return implementation##_set_up(LENT(MASTER), LENT(ID), call->B, call->d, call->r, call->t, LENT(BLOCKS),       \
+                                       LENT(CARD), LENT(TABLE));                                                       \
+    case UPDATE:                                                                                                       \
+        return implementation##_update(LENT(MASTER), LENT(CARD), LENT(TABLE), call->m, LENT(OLD), LENT(NEW));          \
+    case DELETE:                                                                                                       \
+        return implementation##_delete(LENT(MASTER), LENT(CARD), LENT(TABLE), call->m, LENT(OLD));                     \
+    case APPEND:                                                                                                       \
+        return implementation##_append(LENT(MASTER), LENT(CARD), LENT(TABLE), LENT(NEW));                              \
+    case DRAW:                                                                                                         \
+        return implementation##_draw(LENT(MASTER), LENT(CARD), LENT(MESSAGE));                                         \
+    case JUDGE:                                                                                                        \
+        return implementation##_judge(LENT(MASTER), LENT(CARD), LENT(REPLY));                                          \
+    default:                                                                                                           \
+        return implementation##_prove(LENT(MESSAGE), LENT(BLOCKS), LENT(TABLE), LENT(REPLY));                          \
+    }
+
+uint64_t call_library(struct call *call)
+{
+    RUN(legbaro)
+}
+
+uint64_t call_second(struct call *call)
+{
+    RUN(second)
+}
+
+/* What is expected of one buffer after a call: `ours` after the library, `theirs` after the second implementation, `before`. */
+static void compare_buffer(enum kind kind, enum role role, int written, const struct buffer *ours, const struct buffer *theirs,
+                           const struct buffer *before)
+{
+    expect(buffer_same(ours, theirs), "%s: the second implementation's %s", kinds[kind].name, roles[role]);
+    expect(written || buffer_same(ours, before), "%s: the %s as it was", kinds[kind].name, roles[role]);
+    expect(buffer_guarded(ours), "%s: nothing written around the %s", kinds[kind].name, roles[role]);
+}
+
+uint64_t call_compare(struct call *call)
+{
+    struct call before = call_copy(call), other = call_copy(call);
+    uint64_t number = call_library(call);
+    uint64_t expected = call_second(&other);
+    int refused = number != LEGBARO_OK && number != LEGBARO_REJECTED;
+    if (LEGBARO_CODE(number) <= LEGBARO_REJECTED)
+        counts[call->kind][LEGBARO_CODE(number)]++;
+    expect(number == expected, "%s: number %llu, not %llu", kinds[call->kind].name, (unsigned long long)expected,
+           (unsigned long long)number);
+    for (int role = 0; role < ROLES; role++)
+        if (call_takes(call->kind, role)) {
+            int written = !refused && (kinds[call->kind].writes & BIT(role));
+            compare_buffer(call->kind, role, written, &call->lent[role], &other.lent[role], &before.lent[role]);
+        }
+    call_free(&before);
+    call_free(&other);
+    return number;
+}
+
+unsigned long call_count(enum kind kind, uint64_t code)
+{
+    return counts[kind][code];
+}
+
+void call_expect(struct call *call, uint64_t number, const char *what)
+{
+    uint64_t returned = call_compare(call);
+    expect(returned == number, "%s, %s: %llu, not %llu", kinds[call->kind].name, what, (unsigned long long)number,
+           (unsigned long long)returned);
+}
+
+void call_finish(struct call *call, uint64_t number, const char *what)
+{
+    call_expect(call, number, what);
+    call_free(call);
+}

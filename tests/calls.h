@@ -1,0 +1,43 @@
+/* One call as a value: which it is, its numbers and the buffers lent to it. The library and the second implementation can run it. */
+#ifndef CALLS_H
+#define CALLS_H
+
+#include "buffers.h"
+#include "legbaro.h"
+
+enum kind { SET_UP, UPDATE, DELETE, APPEND, DRAW, JUDGE, PROVE, KINDS };
+
+enum role { MASTER, ID, BLOCKS, CARD, TABLE, OLD, NEW, MESSAGE, REPLY, ROLES };
+
+struct call {
+    enum kind kind;
+    uint64_t B, d, r, t; /* of a set-up */
+    uint64_t m;          /* the block number of an update or a deletion */
+    struct buffer lent[ROLES];
+};
+
+/* The call's name, for what is printed. */
+const char *call_name(enum kind kind);
+
+/* Whether calls of a kind are lent a buffer. */
+int call_takes(enum kind kind, enum role role);
+
+struct call call_copy(const struct call *call);
+void call_free(struct call *call);
+
+/* Runs the call on its buffers and answers the number that it returns. */
+uint64_t call_library(struct call *call);
+uint64_t call_second(struct call *call);
+
+/* Runs the call on the library, and a copy of it on the second implementation. Expects the same number and the same bytes in every buffer;
+ * buffers that the call does not write, and in a refusal all of them, to be as they were; guard bytes too. Answers the number. */
+uint64_t call_compare(struct call *call);
+
+/* How many compared calls of a kind returned a code. */
+unsigned long call_count(enum kind kind, uint64_t code);
+
+/* `call_compare`, and expects that number; and the same, and frees the call. */
+void call_expect(struct call *call, uint64_t number, const char *what);
+void call_finish(struct call *call, uint64_t number, const char *what);
+
+#endif

@@ -1,0 +1,25 @@
+/* A program over an installed library, in C99 and in C++ alike: each call once, each accepted. The exit status is 0 where all were. */
+#include "legbaro.h"
+
+#define B 4
+#define D 3
+#define R 2
+#define T 1
+
+int main(void)
+{
+    static const uint8_t master[LEGBARO_MASTER_BYTES] = {1}, id[LEGBARO_ID_BYTES] = {2}, zeros[B] = {0};
+    static uint8_t blocks[(D + 1) * B], card[LEGBARO_CARD_BYTES], table[T * LEGBARO_RECORD_BYTES];
+    static uint8_t message[LEGBARO_MESSAGE_BYTES], reply[LEGBARO_REPLY_BYTES];
+    static const uint8_t block[B] = {3};
+    uint64_t numbers = 0;
+
+    numbers |= legbaro_set_up(master, sizeof master, id, sizeof id, B, D, R, T, blocks, D * B, card, sizeof card, table, sizeof table);
+    numbers |= legbaro_append(master, sizeof master, card, sizeof card, table, sizeof table, zeros, sizeof zeros);
+    numbers |= legbaro_update(master, sizeof master, card, sizeof card, table, sizeof table, 1, zeros, sizeof zeros, block, sizeof block);
+    numbers |= legbaro_delete(master, sizeof master, card, sizeof card, table, sizeof table, 1, block, sizeof block);
+    numbers |= legbaro_draw(master, sizeof master, card, sizeof card, message, sizeof message);
+    numbers |= legbaro_prove(message, sizeof message, blocks, sizeof blocks, table, sizeof table, reply, sizeof reply);
+    numbers |= legbaro_judge(master, sizeof master, card, sizeof card, reply, sizeof reply);
+    return numbers == LEGBARO_OK ? 0 : 1;
+}

@@ -1,0 +1,29 @@
+/* Whether the tests reached every code of every call. */
+#include "tests.h"
+
+#include "calls.h"
+#include "groups.h"
+
+#define CODE(code) (1u << (code))
+#define READS (CODE(LEGBARO_OK) | CODE(LEGBARO_WRONG_LENGTH) | CODE(LEGBARO_WRONG_HEADER) | CODE(LEGBARO_OUT_OF_LIMITS))
+#define CHANGES (READS | CODE(LEGBARO_TOKEN_OPEN) | CODE(LEGBARO_COUNTER_AT_MOST) | CODE(LEGBARO_BAD_RECORD))
+
+/* The codes of each kind of call, a bit for each. */
+static const unsigned codes[KINDS] = {
+    [SET_UP] = CODE(LEGBARO_OK) | CODE(LEGBARO_WRONG_LENGTH) | CODE(LEGBARO_OUT_OF_LIMITS),
+    [UPDATE] = CHANGES | CODE(LEGBARO_NO_SUCH_BLOCK),
+    [DELETE] = CHANGES | CODE(LEGBARO_NO_SUCH_BLOCK),
+    [APPEND] = CHANGES | CODE(LEGBARO_FILE_FULL),
+    [DRAW] = READS | CODE(LEGBARO_TOKEN_OPEN) | CODE(LEGBARO_NO_TOKEN_LEFT),
+    [JUDGE] = READS | CODE(LEGBARO_NONE_OPEN) | CODE(LEGBARO_REJECTED),
+    [PROVE] = READS,
+};
+
+void test_codes(void)
+{
+    group_begin("each call has returned each of its codes, and no other");
+    for (int kind = 0; kind < KINDS; kind++)
+        for (unsigned code = LEGBARO_OK; code <= LEGBARO_REJECTED; code++)
+            expect((call_count(kind, code) > 0) == ((codes[kind] & CODE(code)) != 0), "%s, code %u", call_name(kind), code);
+    group_end();
+}

@@ -1,0 +1,126 @@
+/* See files.h. */
+#include "files.h"
+
+#include "chance.h"
+#include "groups.h"
+
+/* A buffer of random bytes. */
+static struct buffer any_bytes(size_t length)
+{
+    struct buffer b = buffer_blank(length);
+    chance_bytes(b.bytes, length);
+    return b;
+}
+
+struct call file_set_up_call(uint64_t B, uint64_t d, uint64_t r, uint64_t t)
+{
+    struct call call = {.kind = SET_UP, .B = B, .d = d, .r = r, .t = t};
+    call.lent[MASTER] = any_bytes(LEGBARO_MASTER_BYTES);
+    call.lent[ID] = any_bytes(LEGBARO_ID_BYTES);
+    call.lent[BLOCKS] = any_bytes(d * B);
+    call.lent[CARD] = buffer_blank(LEGBARO_CARD_BYTES);
+    call.lent[TABLE] = buffer_blank(t * LEGBARO_RECORD_BYTES);
+    return call;
+}
+
+struct file file_set_up(uint64_t B, uint64_t d, uint64_t r, uint64_t t)
+{
+    struct call call = file_set_up_call(B, d, r, t);
+    call_expect(&call, LEGBARO_OK, "accepted");
+    struct file file = {.book = book_start(&call),
+                        .master = buffer_copy(&call.lent[MASTER]),
+                        .card = buffer_copy(&call.lent[CARD]),
+                        .table = buffer_copy(&call.lent[TABLE]),
+                        .message = buffer_blank(LEGBARO_MESSAGE_BYTES)};
+    call_free(&call);
+    return file;
+}
+
+void file_end(struct file *file)
+{
+    book_end(&file->book);
+    buffer_free(&file->master);
+    buffer_free(&file->card);
+    buffer_free(&file->table);
+    buffer_free(&file->message);
+}
+
+/* The current blocks. */
+static struct buffer current_blocks(const struct file *file)
+{
+    return buffer_of(file->book.blocks, file->book.numbers.n * file->book.numbers.B);
+}
+
+/* The host's reply to the message drawn last, which is made where a token is open, and else blank. */
+static struct buffer honest_reply(const struct file *file)
+{
+    struct call proof = file_call(file, PROVE);
+    if (file->book.numbers.open)
+        call_expect(&proof, LEGBARO_OK, "accepted");
+    struct buffer reply = buffer_copy(&proof.lent[REPLY]);
+    call_free(&proof);
+    return reply;
+}
+
+struct call file_call(const struct file *file, enum kind kind)
+{
+    const struct card *numbers = &file->book.numbers;
+    struct call call = {.kind = kind, .m = 1 + chance_below(numbers->n)};
+    if (call_takes(kind, MASTER))
+        call.lent[MASTER] = buffer_copy(&file->master);
+    if (call_takes(kind, CARD))
+        call.lent[CARD] = buffer_copy(&file->card);
+    if (call_takes(kind, TABLE))
+        call.lent[TABLE] = buffer_copy(&file->table);
+    if (call_takes(kind, BLOCKS))
+        call.lent[BLOCKS] = current_blocks(file);
+    if (call_takes(kind, OLD))
+        call.lent[OLD] = buffer_of(book_block(&file->book, call.m), numbers->B);
+    if (call_takes(kind, NEW))
+        call.lent[NEW] = any_bytes(numbers->B);
+    if (call_takes(kind, MESSAGE))
+        call.lent[MESSAGE] = buffer_copy(&file->message);
+    if (call_takes(kind, REPLY))
+        call.lent[REPLY] = kind == JUDGE ? honest_reply(file) : buffer_blank(LEGBARO_REPLY_BYTES);
+    return call;
+}
+
+/* Gives a buffer of the file the bytes that the call left in its own, where the call was lent one of that length. */
+static void take_over(struct buffer *held, const struct buffer *left)
+{
+    if (!left->bytes || left->length != held->length)
+        return;
+    buffer_free(held);
+    *held = buffer_copy(left);
+}
+
+uint64_t file_run(struct file *file, struct call *call)
+{
+    uint64_t answer = book_answer(&file->book, call);
+    uint64_t number = call_compare(call);
+    expect(number == answer, "%s: the book's number %llu, not %llu", call_name(call->kind), (unsigned long long)answer,
+           (unsigned long long)number);
+    take_over(&file->card, &call->lent[CARD]);
+    take_over(&file->table, &call->lent[TABLE]);
+    take_over(&file->message, &call->lent[MESSAGE]);
+    call_free(call);
+    return number;
+}
+
+void file_do(struct file *file, enum kind kind)
+{
+    struct call call = file_call(file, kind);
+    uint64_t number = file_run(file, &call);
+    expect(number == LEGBARO_OK, "%s: accepted, not %llu", call_name(kind), (unsigned long long)number);
+}
+
+void file_expect_book(const struct file *file)
+{
+    struct buffer card = buffer_blank(file->card.length), table = buffer_blank(file->table.length);
+    book_card(&file->book, card.bytes);
+    book_table(&file->book, table.bytes);
+    expect(buffer_same(&file->card, &card), "the book's card");
+    expect(buffer_same(&file->table, &table), "the book's table");
+    buffer_free(&card);
+    buffer_free(&table);
+}

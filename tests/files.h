@@ -1,0 +1,35 @@
+/* One file as owner and host hold it, beside its plain book, and calls on it. */
+#ifndef FILES_H
+#define FILES_H
+
+#include "book.h"
+#include "calls.h"
+
+struct file {
+    struct book book;
+    struct buffer master, card, table;
+    struct buffer message; /* the one drawn last; blank before the first draw */
+};
+
+/* A set-up with random master, id and blocks. */
+struct call file_set_up_call(uint64_t B, uint64_t d, uint64_t r, uint64_t t);
+
+/* The file of such a set-up, which is compared and expected to be accepted; and its end. */
+struct file file_set_up(uint64_t B, uint64_t d, uint64_t r, uint64_t t);
+void file_end(struct file *file);
+
+/* A call on the file with nothing wrong in its arguments: a change has a block number that exists, present bytes and a random new block, a
+ * proof the message drawn last and the current blocks, a judging the reply of such a proof. The state may still turn it away. */
+struct call file_call(const struct file *file, enum kind kind);
+
+/* Runs a change, draw or judging: compared with the second implementation and with the book. The file takes the buffers that it left,
+ * and the call is freed. Answers the number. */
+uint64_t file_run(struct file *file, struct call *call);
+
+/* `file_run` of `file_call`, expected to be accepted. */
+void file_do(struct file *file, enum kind kind);
+
+/* Expects card and table to be the book's, byte for byte. */
+void file_expect_book(const struct file *file);
+
+#endif

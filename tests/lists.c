@@ -1,0 +1,113 @@
+/* Random lists of calls. Each list is run on the library, on the second implementation and on the plain book. */
+#include "tests.h"
+
+#include "chance.h"
+#include "files.h"
+#include "groups.h"
+
+enum { LONGEST = 40, MOST_TOKENS = 6 };
+
+static const uint64_t rows[] = {1, 2, 4, 5, 16, 17};
+static const uint64_t block_bytes[] = {1, 27, 28, 91, 92, 4096};
+
+#define COUNT(array) (sizeof(array) / sizeof *(array))
+
+/* Another length for a buffer: one less, one more, none, or anything up to twice as long. */
+static void wrong_length(struct buffer *b)
+{
+    size_t other[] = {b->length ? b->length - 1 : 2, b->length + 1, 0, chance_below(2 * b->length + 2)};
+    buffer_resize(b, other[chance_below(COUNT(other))]);
+}
+
+static void flip_any_bit(struct buffer *b)
+{
+    if (b->length)
+        buffer_flip(b, chance_below(8 * b->length));
+}
+
+/* A block number that the file does not have. */
+static uint64_t no_such_block(const struct file *file)
+{
+    uint64_t n = file->book.numbers.n;
+    uint64_t numbers[] = {0, n + 1, n + (UINT64_C(1) << 32), UINT64_MAX, n + 1 + chance_below(1000)};
+    return numbers[chance_below(COUNT(numbers))];
+}
+
+/* Something wrong in what a list may hold: anything lent but card and table, the master's bytes and a block's present bytes. */
+static void disturb(const struct file *file, struct call *call)
+{
+    static const enum role lent[] = {MASTER, OLD, NEW, MESSAGE, REPLY};
+    enum role role = lent[chance_below(COUNT(lent))];
+    if (chance_of(4))
+        call->m = no_such_block(file);
+    else if (call->kind == JUDGE && chance_of(2))
+        flip_any_bit(&call->lent[REPLY]);
+    else if (call_takes(call->kind, role))
+        wrong_length(&call->lent[role]);
+}
+
+/* Which call comes next: a drawn token is mostly judged, and drawing is rarer than changing. */
+static enum kind next_kind(const struct file *file)
+{
+    static const enum kind changes[] = {UPDATE, DELETE, APPEND};
+    if (file->book.numbers.open ? chance_of(2) : chance_of(20))
+        return JUDGE;
+    return chance_of(5) ? DRAW : changes[chance_below(COUNT(changes))];
+}
+
+/* A call of the list. */
+static void step(struct file *file)
+{
+    struct call call = file_call(file, next_kind(file));
+    if (call.kind == UPDATE && chance_of(5))
+        for (size_t i = 0; i < call.lent[NEW].length; i++)
+            call.lent[NEW].bytes[i] = call.lent[OLD].bytes[i];
+    if (chance_of(4))
+        disturb(file, &call);
+    file_run(file, &call);
+}
+
+/* A call beside the list, on copies: any kind, with some bytes or lengths of any buffer altered. The book knows nothing of it. */
+static void aside(const struct file *file)
+{
+    static const enum kind kinds[] = {UPDATE, DELETE, APPEND, DRAW, JUDGE, PROVE};
+    struct call call = file_call(file, kinds[chance_below(COUNT(kinds))]);
+    for (uint64_t faults = 1 + chance_below(2); faults; faults--) {
+        enum role role = (enum role)chance_below(ROLES);
+        if (!call_takes(call.kind, role))
+            continue;
+        if (chance_of(3))
+            wrong_length(&call.lent[role]);
+        else
+            flip_any_bit(&call.lent[role]);
+    }
+    call_compare(&call);
+    call_free(&call);
+}
+
+/* One list on a new file. */
+static void list(uint64_t B, uint64_t d, uint64_t t)
+{
+    uint64_t r = chance_of(3) ? d : 1 + chance_below(d);
+    struct file file = file_set_up(B, d, r, t);
+    for (uint64_t calls = chance_below(LONGEST + 1); calls; calls--) {
+        if (chance_of(6))
+            aside(&file);
+        step(&file);
+    }
+    file_expect_book(&file);
+    file_end(&file);
+}
+
+void test_lists(unsigned lists)
+{
+    for (size_t i = 0; i < COUNT(rows); i++) {
+        unsigned share = lists / COUNT(rows);
+        group_begin("%u random lists of up to %d calls with d = %llu", share, LONGEST, (unsigned long long)rows[i]);
+        for (unsigned j = 0; j < share; j++) {
+            uint64_t t = 1 + j / COUNT(block_bytes) % MOST_TOKENS;
+            list(block_bytes[j % COUNT(block_bytes)], rows[i], t);
+        }
+        group_end();
+    }
+}

@@ -1,0 +1,64 @@
+/*
+ * Compares the library with the second implementation and with the plain book. The last line is 'N passed, M failed', groups of tests.
+ *
+ *   --seed N    another seed than the fixed one
+ *   --lists N   how many random lists
+ *   --exact     buffers without guard bytes, and no large files: for a run under a memory checker
+ */
+#include "tests.h"
+
+#include "buffers.h"
+#include "chance.h"
+#include "groups.h"
+#include "second.h"
+
+#include <stdio.h>
+#include <stdlib.h>
+#include <string.h>
+
+enum { SEED = 20261115, LISTS = 12000 };
+
+static struct {
+    uint64_t seed;
+    unsigned lists;
+    int exact;
+} options = {SEED, LISTS, 0};
+
+/* Reads the command line; answers whether it could be read. */
+static int read_options(int count, char **words)
+{
+    for (int i = 1; i < count; i++) {
+        if (!strcmp(words[i], "--exact"))
+            options.exact = 1;
+        else if (!strcmp(words[i], "--seed") && i + 1 < count)
+            options.seed = strtoull(words[++i], NULL, 10);
+        else if (!strcmp(words[i], "--lists") && i + 1 < count)
+            options.lists = (unsigned)strtoul(words[++i], NULL, 10);
+        else
+            return 0;
+    }
+    return 1;
+}
+
+int main(int count, char **words)
+{
+    if (!read_options(count, words)) {
+        fprintf(stderr, "usage: %s [--seed N] [--lists N] [--exact]\n", words[0]);
+        return 2;
+    }
+    printf("seed %llu\n", (unsigned long long)options.seed);
+    chance_start(options.seed);
+    second_start();
+    if (options.exact)
+        buffers_exact();
+    test_permutation();
+    test_refusals();
+    test_faults();
+    test_bits();
+    test_lists(options.lists);
+    if (!options.exact)
+        test_limits();
+    test_codes();
+    second_end();
+    return groups_passed() ? 0 : 1;
+}

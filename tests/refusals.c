@@ -1,0 +1,125 @@
+/* Paper 01's "Turned away": the small input of each refusal, what is taken at the edge, and the token that code 7 names. */
+#include "tests.h"
+
+#include "chance.h"
+#include "files.h"
+#include "groups.h"
+
+enum { B = 28, D = 5, R = 3, T = 3, RECORDS_TRIED = 6 };
+
+/* Expects a call of a kind on the file, with nothing wrong in its arguments, to be turned away with a code. */
+static void refused(const struct file *file, enum kind kind, uint64_t code, const char *what)
+{
+    struct call call = file_call(file, kind);
+    call_finish(&call, code, what);
+}
+
+/* Code 3's small input: d 5, r 6. */
+static void too_many_positions(void)
+{
+    struct call call = file_set_up_call(B, 5, 6, T);
+    call_finish(&call, LEGBARO_OUT_OF_LIMITS, "d 5, r 6");
+}
+
+/* Code 6's small input: t 1, one draw judged, draw. */
+static void last_token_drawn(void)
+{
+    struct file file = file_set_up(B, D, R, 1);
+    file_do(&file, DRAW);
+    file_do(&file, JUDGE);
+    refused(&file, DRAW, LEGBARO_NO_TOKEN_LEFT, "t 1, one draw judged, draw");
+    file_end(&file);
+}
+
+/* The small inputs on a new file. */
+static void small_calls(struct file *file)
+{
+    struct call call = file_call(file, DRAW);
+    buffer_resize(&call.lent[CARD], LEGBARO_CARD_BYTES - 1);
+    call_finish(&call, LEGBARO_WRONG_LENGTH, "card of 42 bytes");
+
+    call = file_call(file, DRAW);
+    call.lent[CARD].bytes[2] = 2;
+    call_finish(&call, LEGBARO_WRONG_HEADER, "card, version 2");
+
+    call = file_call(file, UPDATE);
+    call.m = 0;
+    call_finish(&call, LEGBARO_NO_SUCH_BLOCK, "update block 0");
+
+    call = file_call(file, APPEND);
+    buffer_put_number(&call.lent[CARD], LEGBARO_CARD_BLOCKS, 4, LEGBARO_MOST_BLOCKS);
+    call_finish(&call, LEGBARO_FILE_FULL, "n 16,777,216");
+
+    call = file_call(file, UPDATE);
+    buffer_flip(&call.lent[TABLE], 8 * (2 * LEGBARO_RECORD_BYTES - 1));
+    call_finish(&call, LEGBARO_BAD_RECORD + 256 * 2, "bit flipped in record 2's tag");
+
+    call = file_call(file, UPDATE);
+    buffer_put_number(&call.lent[CARD], LEGBARO_CARD_COUNTER, 8, LEGBARO_MOST_COUNTER);
+    call_finish(&call, LEGBARO_COUNTER_AT_MOST, "ctr 4,294,967,295");
+
+    refused(file, JUDGE, LEGBARO_NONE_OPEN, "judge after set-up");
+    file_do(file, DRAW);
+    refused(file, APPEND, LEGBARO_TOKEN_OPEN, "draw, append");
+}
+
+/* What is taken: r 5 with d 5; t = 1 allows one draw; for a proof, a table that is just long enough or longer. */
+static void taken(void)
+{
+    struct file file = file_set_up(B, 5, 5, 1);
+    file_do(&file, DRAW);
+    for (size_t longer = 0; longer <= 2; longer++) {
+        struct call call = file_call(&file, PROVE);
+        buffer_resize(&call.lent[TABLE], LEGBARO_RECORD_BYTES + longer);
+        call_finish(&call, LEGBARO_OK, "a table of 63 bytes or more for token 1");
+    }
+    file_do(&file, JUDGE);
+    file_end(&file);
+}
+
+static void small_inputs(void)
+{
+    group_begin("each refusal's small input");
+    struct file file = file_set_up(B, D, R, T);
+    small_calls(&file);
+    file_end(&file);
+    too_many_positions();
+    last_token_drawn();
+    taken();
+    group_end();
+}
+
+/* With `next` to draw and the records of a set damaged (a bit for each), a change names the lowest unused one among them. */
+static void damaged_set(const struct file *file, enum kind kind, unsigned set)
+{
+    uint64_t lowest = file->book.numbers.next;
+    struct call call = file_call(file, kind);
+    for (unsigned i = 1; i <= RECORDS_TRIED; i++)
+        if (set & 1u << i)
+            buffer_flip(&call.lent[TABLE], 8 * LEGBARO_RECORD_BYTES * (i - 1) + chance_below(8 * LEGBARO_RECORD_BYTES));
+    while (lowest <= RECORDS_TRIED && !(set & 1u << lowest))
+        lowest++;
+    call_finish(&call, lowest > RECORDS_TRIED ? LEGBARO_OK : LEGBARO_BAD_RECORD + 256 * lowest, "the lowest unused bad record");
+}
+
+static void bad_records(void)
+{
+    group_begin("code 7 names the lowest unused record that does not open");
+    struct file file = file_set_up(B, D, R, RECORDS_TRIED);
+    for (unsigned next = 1; next <= RECORDS_TRIED + 1; next++) {
+        for (unsigned set = 0; set < 2u << RECORDS_TRIED; set += 2)
+            damaged_set(&file, (enum kind)(UPDATE + chance_below(3)), set);
+        if (next <= RECORDS_TRIED) {
+            file_do(&file, DRAW);
+            file_do(&file, JUDGE);
+        }
+    }
+    file_end(&file);
+    group_end();
+}
+
+void test_refusals(void)
+{
+    small_inputs();
+    bad_records();
+}

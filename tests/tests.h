@@ -1,0 +1,26 @@
+/* The parts of the test program. Each runs one group of tests or several. */
+#ifndef TESTS_H
+#define TESTS_H
+
+/* The second implementation's permutation on small d: one to one, undone backward, with paper 01's half widths. */
+void test_permutation(void);
+
+/* The small input of each refusal in paper 01's table, what is taken at the edge, and the token that code 7 names. */
+void test_refusals(void);
+
+/* Every fault alone, and every two faults in one call, in paper 01's order. */
+void test_faults(void);
+
+/* Every single-bit change of what the calls read. */
+void test_bits(void);
+
+/* Random lists of calls, turned-away ones included, on files of every small and odd size. */
+void test_lists(unsigned lists);
+
+/* The most of every number. */
+void test_limits(void);
+
+/* That each call returned each of its codes, and no other, in all of these. */
+void test_codes(void);
+
+#endif
