@@ -27,7 +27,7 @@
  *   - the old block handed to an update or a deletion is the one the file holds. Other bytes are taken as they are, and then the
  *     tokens that cover the block no longer fit the file.
  *
- * The library keeps nothing between calls, allocates nothing, and needs less than 16 KB of stack. Calls on separate buffers may run at
+ * The library keeps nothing between calls, allocates nothing, and needs less than 64 KB of stack. Calls on separate buffers may run at
  * the same time. It is compiled for x86-64. Time and other side channels are not covered.
  */
 #ifndef LEGBARO_H
