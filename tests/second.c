@@ -228,13 +228,12 @@ static void use_keys(const uint8_t *master, const uint8_t *id)
     must(EVP_DecryptInit_ex(opening, NULL, NULL, k, NULL));
 }
 
-/* "For token i (four bytes): k = HMAC(W, i), c = HMAC(Z, i)" */
-static void token_keys(uint64_t i, uint8_t *k, uint8_t *c)
+/* "For token i (four bytes): k = HMAC(W, i), c = HMAC(Z, i)": one of them, under W or Z. */
+static void token_key(HMAC_CTX *context, uint64_t i, uint8_t *key)
 {
     uint8_t text[4];
     put(text, sizeof text, i);
-    keyed_hash(under_w, text, sizeof text, k);
-    keyed_hash(under_z, text, sizeof text, c);
+    keyed_hash(context, text, sizeof text, key);
 }
 
 /* ---- The permutation P of 0..d-1 ---- */
@@ -402,7 +401,8 @@ void second_fresh_records(const uint8_t *master, const struct card *c, const uin
     uint8_t k[KEY_BYTES], hash_key[KEY_BYTES], token[TOKEN_BYTES];
     use_keys(master, c->id);
     for (uint64_t i = first; i <= last; i++) {
-        token_keys(i, k, hash_key);
+        token_key(under_w, i, k);
+        token_key(under_z, i, hash_key);
         digest(k, hash_key, c->d, c->r, c->B, c->n, blocks, token);
         seal(record_at(table, i), c->ctr, i, token);
     }
@@ -467,10 +467,11 @@ static void reseal(uint8_t *record, const struct card *c, uint64_t i, uint64_t m
 {
     uint8_t k[KEY_BYTES], hash_key[KEY_BYTES], token[TOKEN_BYTES];
     must(open_record(record, c->ctr, i, token));
-    token_keys(i, k, hash_key);
+    token_key(under_w, i, k);
     use_draw_key(k);
     uint64_t j = permuted_back(c->d, (m - 1) % c->d) + 1;
     if (j <= c->r) {
+        token_key(under_z, i, hash_key);
         uint64_t index = (m - 1) / c->d * c->d + j;
         if (old_block)
             mix_block(token, hash_key, index, old_block, c->B);
@@ -556,7 +557,8 @@ uint64_t second_draw(const uint8_t *master, size_t master_length,
     struct message m = {.i = c.next, .B = c.B, .d = c.d, .r = c.r, .n = c.n};
     memcpy(m.id, c.id, sizeof m.id);
     use_keys(master, c.id);
-    token_keys(c.next, m.k, m.c);
+    token_key(under_w, c.next, m.k);
+    token_key(under_z, c.next, m.c);
     write_message(message, &m);
     c.open = c.next;
     c.next++;
