@@ -325,7 +325,7 @@ fn four_more(
 }
 
 // The digest of the positions up to the last whole four of them. The messages hold the key c.
-fn fours(
+fn fours_in(
     k: [u8; 32],
     table: &[u16],
     c: [u8; 32],
@@ -369,13 +369,51 @@ fn fours(
     x
 }
 
-// A message with the key in front, and room for the largest block.
-fn keyed(c: [u8; 32]) -> [u8; 4132]
-    ensures { λ r. ⌜ (take 32 r ≡ c) × (length r ≡ 4132) ⌝ }
+// Writes the key to the front of a message.
+fn put_key(message: &mut [u8], c: [u8; 32])
+    requires { ⌜ 32 ≤ length (now message) ⌝ }
+    ensures { λ _. ⌜ (take 32 (now (message .exit)) ≡ c) × (length (now (message .exit)) ≡ length (now (message .entry))) ⌝ }
 {
-    let mut m = [0u8; 4132];
-    octets::copy(&mut m, 0, &c);
-    m
+    octets::copy(message, 0, &c);
+}
+
+// The digest of the positions up to the last whole four of them.
+fn fours(
+    k: [u8; 32],
+    table: &[u16],
+    c: [u8; 32],
+    rows: u64,
+    positions: u64,
+    size: u64,
+    count: u64,
+    blocks: &[u8],
+) -> [u8; 32]
+    requires { ⌜ Laid rows size count (now blocks) × (positions ≤ rows) × Tabled (keyWords k) (half rows) (now table) ⌝ }
+    ensures { λ r. ⌜ r ≡ T.digest standard k c rows (positions / 4 * 4) (pieces size count (now (blocks .entry))) ⌝ }
+{
+    let mut m0 = [0u8; 4132];
+    let mut m1 = [0u8; 4132];
+    let mut m2 = [0u8; 4132];
+    let mut m3 = [0u8; 4132];
+    put_key(&mut m0, c);
+    put_key(&mut m1, c);
+    put_key(&mut m2, c);
+    put_key(&mut m3, c);
+    let end = 36 + size as usize;
+    fours_in(
+        k,
+        table,
+        c,
+        rows,
+        positions,
+        size,
+        count,
+        blocks,
+        &mut m0[..end],
+        &mut m1[..end],
+        &mut m2[..end],
+        &mut m3[..end],
+    )
 }
 
 // The digest of all positions under the keys k and c: four rows at a time, and what is left row by row.
@@ -394,11 +432,6 @@ pub fn digest(
     let words = chacha20::key_words(&k);
     let mut table = [0u16; 8192];
     let entries = permutation::tabulated(words, rows, positions, &mut table);
-    let mut m0 = keyed(c);
-    let mut m1 = keyed(c);
-    let mut m2 = keyed(c);
-    let mut m3 = keyed(c);
-    let end = 36 + size as usize;
     let mut x = fours(
         k,
         &table[..entries],
@@ -408,10 +441,6 @@ pub fn digest(
         size,
         count,
         blocks,
-        &mut m0[..end],
-        &mut m1[..end],
-        &mut m2[..end],
-        &mut m3[..end],
     );
     let mut drawn = positions / 4 * 4;
     while drawn < positions {

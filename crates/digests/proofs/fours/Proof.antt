@@ -1,122 +1,100 @@
--- After each turn the digest is that of four positions more, under any key with these words, by four-turn.
+-- The four messages have the key in front, and are cut to the size of a block.
 use borrow.Author.Needs.{needs}
-use native.Mathlib.Omega.{arith}
-use mathlib.Core.Path.{_≡_, sym, _∙_, subst}
-use mathlib.Core.List.{List}
-use Prim.Native.Nat.{ℕ, _*_, _-_, _/_, _≤_}
-use Rattle.chacha20.specs.ChaCha20.{keyWords}
-use Rattle.permutation.specs.Rounds.{half}
-use Rattle.permutation.specs.Table.{Tabled}
-use Rattle.scheme.specs.Lists.{pieces}
-use Rattle.scheme.specs.Tokens.{digest}
-use Rattle.standard.specs.Standard.{standard}
-use Rattle.digests.specs.Layout.{Message}
-use Rattle.digests.proofs.TurnLaws.{digest-none}
-use Rattle.digests.proofs.FourLaws.{four-turn, fours-done}
+use Rattle.digests.proofs.FourLaws.{cut-long, message-cut}
 use Rattle.digests.proofs.fours.Statement.{statement}
 use Rattle.digests.proofs.fours.Tie as tie
 
-abbrev Inv-loop : tie.InvT-loop
-Inv-loop table c rows positions size count blocks m0₀ m1₀ m2₀ m3₀ words groups x₀ i₀ m0 m1 m2 m3 x i =
-    (i ≤ groups)
-    × Message c size m0
-    × Message c size m1
-    × Message c size m2
-    × Message c size m3
-    × ((k : List ℕ) → words ≡ keyWords k → x ≡ digest standard k c rows (i * 4) (pieces size count blocks))
+slice-aggregate-put-key : tie.Need-slice-aggregate-put-key
+slice-aggregate-put-key c = search needs
 
-abbrev μ-loop : tie.MeasureT-loop
-μ-loop table c rows positions size count blocks m0₀ m1₀ m2₀ m3₀ words groups x₀ i₀ m0 m1 m2 m3 x i = groups - i
+put-key-requires : tie.Need-put-key-requires
+put-key-requires c κs = search needs
 
-slice-aggregate-key-words : tie.Need-slice-aggregate-key-words Inv-loop μ-loop
-slice-aggregate-key-words c = search needs
+slice-aggregate-put-key-2 : tie.Need-slice-aggregate-put-key-2
+slice-aggregate-put-key-2 c = search needs
 
-key-words-requires : tie.Need-key-words-requires Inv-loop μ-loop
-key-words-requires c κs = search needs
+put-key-requires-2 : tie.Need-put-key-requires-2
+put-key-requires-2 c κs = search needs
 
-loop-holds : tie.Need-loop-holds Inv-loop μ-loop
-loop-holds c =
-    let s = c .before .before .before .before .before .before .before .before in
-    let a = s .args in
-    let g = s .pre .1 in
-    (omega arith, g .0, g .1, g .2, g .3, λ k e. digest-none k (a .c) (a .rows) (pieces (a .size) (a .count) (a .blocks .now)))
+slice-aggregate-put-key-3 : tie.Need-slice-aggregate-put-key-3
+slice-aggregate-put-key-3 c = search needs
 
-mul-four-more : tie.Need-mul-four-more Inv-loop μ-loop
-mul-four-more c =
-    let s = c .before .before .before .before .before .before .before .before .before .before in
-    omega (arith, c .loop-test .taken, s .pre .0 .1, s .pre .0 .0 .few-rows)
+put-key-requires-3 : tie.Need-put-key-requires-3
+put-key-requires-3 c κs = search needs
 
-four-more-requires : tie.Need-four-more-requires Inv-loop μ-loop
-four-more-requires c κs =
-    let turn = c .before .before .before .before in
-    let l = turn .before .loop in
-    let s = turn .before .before .before .before .before .before .before .before .before .before in
-    let p = s .pre .0 in
-    let words = turn .before .before .key-words .ensures in (
+slice-aggregate-put-key-4 : tie.Need-slice-aggregate-put-key-4
+slice-aggregate-put-key-4 c = search needs
+
+put-key-requires-4 : tie.Need-put-key-requires-4
+put-key-requires-4 c κs = search needs
+
+add-end : tie.Need-add-end
+add-end c = search needs
+
+array-borrow-prefix-m0 : tie.Need-array-borrow-prefix-m0
+array-borrow-prefix-m0 c = search needs
+
+slice-aggregate-fours-in : tie.Need-slice-aggregate-fours-in
+slice-aggregate-fours-in c = cut-long _ (c .before .before .before .before .before .before .before .before .before .before .before .before .before .before .before .args .size) (c .before .before .before .before .before .before .before .before .before .before .before .put-key .ensures .1) (c .before .before .before .before .before .before .before .before .before .before .before .before .before .before .before .pre .0 .small)
+
+array-borrow-prefix-m1 : tie.Need-array-borrow-prefix-m1
+array-borrow-prefix-m1 c = search needs
+
+slice-aggregate-fours-in-2 : tie.Need-slice-aggregate-fours-in-2
+slice-aggregate-fours-in-2 c = cut-long _ (c .before .before .before .before .before .before .before .before .before .before .before .before .before .before .before .before .args .size) (c .before .before .before .before .before .before .before .before .before .put-key2 .ensures .1) (c .before .before .before .before .before .before .before .before .before .before .before .before .before .before .before .before .pre .0 .small)
+
+array-borrow-prefix-m2 : tie.Need-array-borrow-prefix-m2
+array-borrow-prefix-m2 c = search needs
+
+slice-aggregate-fours-in-3 : tie.Need-slice-aggregate-fours-in-3
+slice-aggregate-fours-in-3 c = cut-long _ (c .before .before .before .before .before .before .before .before .before .before .before .before .before .before .before .before .before .args .size) (c .before .before .before .before .before .before .before .put-key3 .ensures .1) (c .before .before .before .before .before .before .before .before .before .before .before .before .before .before .before .before .before .pre .0 .small)
+
+array-borrow-prefix-m3 : tie.Need-array-borrow-prefix-m3
+array-borrow-prefix-m3 c = search needs
+
+slice-aggregate-fours-in-4 : tie.Need-slice-aggregate-fours-in-4
+slice-aggregate-fours-in-4 c = cut-long _ (c .before .before .before .before .before .before .before .before .before .before .before .before .before .before .before .before .before .before .args .size) (c .before .before .before .before .before .put-key4 .ensures .1) (c .before .before .before .before .before .before .before .before .before .before .before .before .before .before .before .before .before .before .pre .0 .small)
+
+fours-in-requires : tie.Need-fours-in-requires
+fours-in-requires c κs =
+    let fourth = c .before .before .before .before .before in
+    let third = fourth .before .before .before in
+    let second = third .before .before .before in
+    let first = second .before .before .before in
+    let s = first .before .before .before .before in
+    let a = s .args in (
+      s .pre,
       (
-        p .0,
-        omega (arith, turn .loop-test .taken, p .1),
-        subst (λ (w : List ℕ). Tabled w (half (s .args .rows)) (s .args .table .now)) (sym words) (p .2),
+        message-cut (a .c) _ (a .size) (first .put-key .ensures) (s .pre .0 .small),
+        message-cut (a .c) _ (a .size) (second .put-key2 .ensures) (s .pre .0 .small),
+        message-cut (a .c) _ (a .size) (third .put-key3 .ensures) (s .pre .0 .small),
+        message-cut (a .c) _ (a .size) (fourth .put-key4 .ensures) (s .pre .0 .small),
       ),
-      (l .inv .1, l .inv .2, l .inv .3, l .inv .4),
     )
 
-add-i : tie.Need-add-i Inv-loop μ-loop
-add-i c = omega (arith, c .before .before .before .before .before .before .before .before .before .before .before .before .before .loop-test .taken, c .before .before .before .before .before .before .before .before .before .before .before .before .before .before .before .before .before .before .before .before .before .before .before .pre .0 .1, c .before .before .before .before .before .before .before .before .before .before .before .before .before .before .before .before .before .before .before .before .before .before .before .pre .0 .0 .few-rows)
-
-loop-less : tie.Need-loop-less Inv-loop μ-loop
-loop-less c = omega (arith, c .before .before .before .before .before .before .before .before .before .before .before .before .before .loop-test .taken)
-
-loop-again : tie.Need-loop-again Inv-loop μ-loop
-loop-again c =
-    let made = c .before .before .before .before .before .before .before .before in
-    let turn = made .before .before .before .before .before in
-    let l = turn .before .loop in
-    let a = turn .before .before .before .before .before .before .before .before .before .before .args in
-    let h = made .four-more .ensures in (
-      omega (arith, turn .loop-test .taken),
-      h .1 .0,
-      h .1 .1,
-      h .1 .2,
-      h .1 .3,
-      λ k e. four-turn _ (a .c) (a .rows) (pieces (a .size) (a .count) (a .blocks .now)) k e (l .i) _ _ (l .inv .5 k e) (h .0),
-    )
-
-same-length : tie.Need-same-length Inv-loop μ-loop
-same-length c = c .before .loop .inv .1 .long ∙ sym (c .before .before .before .before .before .before .before .before .before .before .pre .1 .0 .long)
-
-same-length-2 : tie.Need-same-length-2 Inv-loop μ-loop
-same-length-2 c = c .before .loop .inv .2 .long ∙ sym (c .before .before .before .before .before .before .before .before .before .before .pre .1 .1 .long)
-
-same-length-3 : tie.Need-same-length-3 Inv-loop μ-loop
-same-length-3 c = c .before .loop .inv .3 .long ∙ sym (c .before .before .before .before .before .before .before .before .before .before .pre .1 .2 .long)
-
-same-length-4 : tie.Need-same-length-4 Inv-loop μ-loop
-same-length-4 c = c .before .loop .inv .4 .long ∙ sym (c .before .before .before .before .before .before .before .before .before .before .pre .1 .3 .long)
-
-returns : tie.Need-returns Inv-loop μ-loop
-returns c =
-    let l = c .before .loop in
-    let a = c .before .before .before .before .before .before .before .before .before .before .args in
-    fours-done _ (a .c) (a .rows) (pieces (a .size) (a .count) (a .blocks .now)) (a .t1) (c .before .before .key-words .ensures) (l .i) (a .positions / 4) _ (l .inv .0) (c .loop-test .left)
-    (l .inv .5 (a .t1) (c .before .before .key-words .ensures))
+returns : tie.Need-returns
+returns c = search needs
 
 pub fours-spec : {M : Type 1} → statement M
 fours-spec =
     tie.close
     (tie.spec
-    Inv-loop
-    μ-loop
-    slice-aggregate-key-words
-    key-words-requires
-    loop-holds
-    mul-four-more
-    four-more-requires
-    add-i
-    loop-less
-    loop-again
-    same-length
-    same-length-2
-    same-length-3
-    same-length-4
+    slice-aggregate-put-key
+    put-key-requires
+    slice-aggregate-put-key-2
+    put-key-requires-2
+    slice-aggregate-put-key-3
+    put-key-requires-3
+    slice-aggregate-put-key-4
+    put-key-requires-4
+    add-end
+    array-borrow-prefix-m0
+    slice-aggregate-fours-in
+    array-borrow-prefix-m1
+    slice-aggregate-fours-in-2
+    array-borrow-prefix-m2
+    slice-aggregate-fours-in-3
+    array-borrow-prefix-m3
+    slice-aggregate-fours-in-4
+    fours-in-requires
     returns)
