@@ -1,69 +1,58 @@
 -- What is hashed of a block: the key, the index's four bytes, the content. Assumes nothing.
---   message-laid      index and content written behind the key
---   said-long         its length
---   said-key          the key stays in front
---   key-first         a key copied to the front
-use Prim.Native.Nat.{ℕ, _+_, _*_, _-_, _≤_}
+--   message-laid      written one behind the other
+--   message-parts, parts-long     a message cut into them again
+--   cut-long          the largest message cut to a block's size
+use Prim.Native.Nat.{ℕ, _+_, _-_, _≤_}
 use native.Mathlib.Omega.{arith}
-use mathlib.Core.Path.{_≡_, sym, ap, ap₂, _∙_}
+use mathlib.Core.Path.{_≡_, refl, sym, ap, ap₂, _∙_}
 use mathlib.Core.List.{List, [], _++_, append-nil, append-assoc}
-use lib.ListN.{length, take, drop, length-append, length-drop, drop-of-length-le}
-use lib.Seq.{length-take-le, take-at}
+use lib.ListN.{length, take, drop, length-append, length-drop, drop-of-length-le, take-append-drop, replicate, length-replicate}
+use lib.Seq.{drop-drop, take-all, length-take-le}
 use Rattle.octets.specs.Octets.{be, part, put}
 use Rattle.octets.proofs.NumberLaws.{length-be}
 use Rattle.octets.proofs.PartLaws.{length-part, put-put}
-use Rattle.scheme.specs.Tokens.{blockIn, indexOf}
-use Rattle.digests.specs.Layout.{Seat, said}
-use Rattle.digests.proofs.BlockLaws.{block-end}
 
-module _ (m xs : List ℕ) (index at B : ℕ) (long : length m ≡ 36 + B) (inside : at + B ≤ length xs) where
-  abbrev tail : List ℕ
-  tail = be 4 index ++ part at B xs
-
-  tail-long : length tail ≡ 4 + B
-  tail-long = length-append (be 4 index) (part at B xs) ∙ ap₂ _+_ (length-be 4 index) (length-part at B xs inside)
-
-  pub message-laid : (m₁ m₂ : List ℕ) → m₁ ≡ put 32 (be 4 index) m → m₂ ≡ put 36 (take (at + B - at) (drop at xs)) m₁
-      → m₂ ≡ take 32 m ++ be 4 index ++ part at B xs
-  unfolding put
-  message-laid m₁ m₂ e₁ e₂ =
-      let whole : at + B - at ≡ B = omega arith in
-      let behind : 32 + length (be 4 index) ≡ 36 = ap (λ (n : ℕ). 32 + n) (length-be 4 index) in
-      let room : 32 + length (be 4 index) + length (part at B xs) ≤ length m = omega (arith, length-be 4 index, length-part at B xs inside) in
-      let none : drop (length tail) (drop 32 m) ≡ [] = drop-of-length-le (drop 32 m) {i = length tail} (omega (arith, tail-long, length-drop 32 m)) in
-      e₂
-      ∙ ap₂ (λ (u v : List ℕ). put 36 u v) (ap (λ (n : ℕ). take n (drop at xs)) whole) e₁
-      ∙ ap (λ (n : ℕ). put n (part at B xs) (put 32 (be 4 index) m)) (sym behind)
-      ∙ put-put 32 (be 4 index) (part at B xs) m room
-      ∙ ap (λ (u : List ℕ). take 32 m ++ (tail ++ u)) none
-      ∙ ap (λ (u : List ℕ). take 32 m ++ u) (append-nil tail)
-      ∙ sym (append-assoc (take 32 m) (be 4 index) (part at B xs))
-
-  whole-long : length (take 32 m ++ be 4 index ++ part at B xs) ≡ 36 + B
-  whole-long =
-      ap length (append-assoc (take 32 m) (be 4 index) (part at B xs))
-      ∙ length-append (take 32 m) tail
-      ∙ ap₂ _+_ (length-take-le 32 m (omega arith)) tail-long
-      ∙ omega arith
-
-  whole-key : take 32 (take 32 m ++ be 4 index ++ part at B xs) ≡ take 32 m
-  whole-key =
-      ap (take 32) (append-assoc (take 32 m) (be 4 index) (part at B xs))
-      ∙ take-at (take 32 m) tail 32 (length-take-le 32 m (omega arith))
-
-module _ {d ρ q B : ℕ} {blocks m r : List ℕ} (j : ℕ) (seat : Seat d ρ q B blocks m) (e : r ≡ said d ρ j q B blocks m) where
-  seated : (blockIn d ρ q - 1) * B + B ≤ length blocks
-  unfolding blockIn
-  seated = omega (arith, block-end (q * d + ρ) B (omega (arith, seat .from-one)), seat .inside)
-
-  pub said-long : length r ≡ 36 + B
-  unfolding said
-  said-long = ap length e ∙ whole-long m blocks (indexOf d q j) ((blockIn d ρ q - 1) * B) B (seat .room) seated
-
-  pub said-key : take 32 r ≡ take 32 m
-  unfolding said
-  said-key = ap (take 32) e ∙ whole-key m blocks (indexOf d q j) ((blockIn d ρ q - 1) * B) B (seat .room) seated
-
-pub key-first : (c xs r : List ℕ) → length c ≡ 32 → r ≡ put 0 c xs → take 32 r ≡ c
+-- three lists that fill a buffer, written one behind the other
+three : (a b c m : List ℕ) → length a + length b + length c ≡ length m → put (length a + length b) c (put (length a) b (put 0 a m)) ≡ a ++ b ++ c
 unfolding put
-key-first c xs r l e = ap (take 32) e ∙ take-at c (drop (length c) xs) 32 l
+three a b c m l =
+    let start : (n : ℕ) → n ≡ 0 + n = λ n. omega arith in
+    let first : put (length a) b (put 0 a m) ≡ put 0 (a ++ b) m = ap (λ (n : ℕ). put n b (put 0 a m)) (start (length a)) ∙ put-put 0 a b m (omega arith) in
+    let ab : length (a ++ b) ≡ length a + length b = length-append a b in
+    let none : drop (length (a ++ b ++ c)) m ≡ [] = drop-of-length-le m {i = length (a ++ b ++ c)} (omega (arith, length-append (a ++ b) c, ab)) in
+    ap (put (length a + length b) c) first
+    ∙ ap (λ (n : ℕ). put n c (put 0 (a ++ b) m)) (sym ab ∙ start (length (a ++ b)))
+    ∙ put-put 0 (a ++ b) c m (omega (arith, ab))
+    ∙ ap (λ (u : List ℕ). (a ++ b ++ c) ++ u) none
+    ∙ append-nil (a ++ b ++ c)
+
+pub message-laid : (c m xs m₁ m₂ m₃ : List ℕ) (index at B : ℕ) → length c ≡ 32 → length m ≡ 36 + B → at + B ≤ length xs
+    → m₁ ≡ put 0 c m → m₂ ≡ put 32 (be 4 index) m₁ → m₃ ≡ put 36 (take (at + B - at) (drop at xs)) m₂
+    → m₃ ≡ c ++ be 4 index ++ part at B xs
+message-laid c m xs m₁ m₂ m₃ index at B lc lm inside e₁ e₂ e₃ =
+    let whole : at + B - at ≡ B = omega arith in
+    let four : length c + length (be 4 index) ≡ 36 = ap₂ _+_ lc (length-be 4 index) in
+    e₃
+    ∙ ap₂ (put 36) (ap (λ (n : ℕ). take n (drop at xs)) whole) (e₂ ∙ ap (put 32 (be 4 index)) e₁)
+    ∙ ap₂ (λ (u v : ℕ). put u (part at B xs) (put v (be 4 index) (put 0 c m))) (sym four) (sym lc)
+    ∙ three c (be 4 index) (part at B xs) m (omega (arith, lc, length-be 4 index, length-part at B xs inside))
+
+pub message-parts : (m : List ℕ) (n : ℕ) → 36 ≤ length m → n ≡ length m → take 32 m ++ take (36 - 32) (drop 32 m) ++ take (n - 36) (drop 36 m) ≡ m
+message-parts m n h e =
+    let rest : take (n - 36) (drop 36 m) ≡ drop 36 m = take-all (n - 36) (drop 36 m) (omega (arith, length-drop 36 m)) in
+    ap (λ (u : List ℕ). take 32 m ++ take 4 (drop 32 m) ++ u) rest
+    ∙ append-assoc (take 32 m) (take 4 (drop 32 m)) (drop 36 m)
+    ∙ ap (λ (u : List ℕ). take 32 m ++ (take 4 (drop 32 m) ++ u)) (sym (drop-drop 4 32 m))
+    ∙ ap (λ (u : List ℕ). take 32 m ++ u) (take-append-drop 4 (drop 32 m))
+    ∙ take-append-drop 32 m
+
+pub parts-long : (m : List ℕ) → 36 ≤ length m → length (take 32 m) + length (take (36 - 32) (drop 32 m)) + length (take (length m - 36) (drop 36 m)) ≡ length m
+parts-long m h =
+    let a : List ℕ = take 32 m in
+    let i : List ℕ = take 4 (drop 32 m) in
+    let r : List ℕ = take (length m - 36) (drop 36 m) in
+    sym (length-append (a ++ i) r ∙ ap (λ (n : ℕ). n + length r) (length-append a i)) ∙ ap length (message-parts m (length m) h refl)
+
+-- the largest message cut to a block's size
+pub cut-long : (B : ℕ) → B ≤ 4096 → length (take (36 + B) (replicate {A = ℕ} 4132 0)) ≡ 36 + B
+cut-long B h = length-take-le {A = ℕ} (36 + B) (replicate 4132 0) (omega (arith, length-replicate {A = ℕ} 4132 0))

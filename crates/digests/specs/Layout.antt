@@ -1,13 +1,12 @@
--- How blocks lie in a buffer, and messages to be hashed. Assumes nothing.
+-- How blocks lie in a buffer, and what is hashed of one. Assumes nothing.
 --   Laid d B n blocks           blocks holds n blocks of B bytes, in d rows, within the limits
 --   Row d ρ                     ρ is one of d rows
---   Message c B m               m has the key c in front, and room for an index and a block of B bytes behind it
---   Seat d ρ q B blocks m       the block in row ρ and column q, of d rows, lies in blocks, and m has room for it
---   said d ρ j q B blocks m     what is hashed of it at position j, behind the key in m
+--   Seat d ρ q B blocks         the block in row ρ and column q, of d rows, lies in blocks
+--   said c d ρ j q B blocks     what is hashed of it at position j, under the key c
 use Prim.Native.Nat.{ℕ, _+_, _*_, _-_, _≤_}
 use mathlib.Core.List.{List, _++_}
 use mathlib.Core.Path.{_≡_}
-use lib.ListN.{length, take}
+use lib.ListN.{length}
 use Rattle.octets.specs.Octets.{be, part}
 use Rattle.scheme.specs.Tokens.{blockIn, indexOf}
 
@@ -23,17 +22,12 @@ pub record Row (d ρ : ℕ) : Type 0 where
   pub from-one : 1 ≤ ρ
   pub most : ρ ≤ d
 
-pub record Message (c : List ℕ) (B : ℕ) (m : List ℕ) : Type 0 where
-  pub key : take 32 m ≡ c
-  pub long : length m ≡ 36 + B
-
-pub record Seat (d ρ q B : ℕ) (blocks m : List ℕ) : Type 0 where
+pub record Seat (d ρ q B : ℕ) (blocks : List ℕ) : Type 0 where
   pub from-one : 1 ≤ ρ
   pub few : q * d + ρ ≤ 16777216
   pub small : B ≤ 4096
   pub inside : (q * d + ρ) * B ≤ length blocks
-  pub room : length m ≡ 36 + B
 
 -- "SHA-256(c, column × d + j as four bytes, block)"
-unfoldable pub said : ℕ → ℕ → ℕ → ℕ → ℕ → List ℕ → List ℕ → List ℕ
-said d ρ j q B blocks m = take 32 m ++ be 4 (indexOf d q j) ++ part ((blockIn d ρ q - 1) * B) B blocks
+unfoldable pub said : List ℕ → ℕ → ℕ → ℕ → ℕ → ℕ → List ℕ → List ℕ
+said c d ρ j q B blocks = c ++ be 4 (indexOf d q j) ++ part ((blockIn d ρ q - 1) * B) B blocks
