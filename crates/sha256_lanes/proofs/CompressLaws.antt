@@ -14,8 +14,9 @@ use borrow.Author.Tests.{le-ltb}
 use lib.ListN.{length, getD, take, drop, length-append, length-set, length-drop, List·getD-append}
 use lib.Seq.{drop-append-le, drop-drop, getD-take, getD-drop, getD-set-same, getD-set-other}
 use Rattle.sha256.specs.Sha256.{_⊞_, K, round, rounds, schedule, next, word, added, compressed}
-use Rattle.sha256_lanes.specs.Lanes.{laneFrom, lane, putLane, roundWords, runs, ran, nextWord, slid, slides, moved, sums}
-use Rattle.sha256_lanes.proofs.LaneLaws.{length-lane, length-four, lanes-four, length-each, each-lane}
+use Rattle.lanes.specs.Lanes.{laneFrom, lane, putLane}
+use Rattle.sha256_lanes.specs.Rounds.{roundWords, runs, ran, nextWord, slid, slides, moved, sums}
+use Rattle.lanes.proofs.LaneLaws.{length-lane, length-four, lanes-four, length-each, each-lane}
 use Rattle.sha256_lanes.proofs.LoopLaws.{length-schedule}
 
 prefix : (m : List ℕ) (n d i : ℕ) → i < n → getD (schedule m (n + d)) i 0 ≡ getD (schedule m n) i 0

@@ -8,7 +8,7 @@ use native.Mathlib.Omega.{arith}
 use lib.ListN.{length, getD, drop, drop-of-length-le}
 use lib.Seq.{drop-cons}
 use Rattle.sha256.specs.Sha256.{round}
-use Rattle.sha256_lanes.specs.Lanes.{runs, nextWord, slid, slides}
+use Rattle.sha256_lanes.specs.Rounds.{runs, nextWord, slid, slides}
 
 -- eight words and sixteen are the lists of their elements
 pub eta8 : (v : List ℕ) → length v ≡ 8

@@ -6,7 +6,7 @@ use Prim.Native.Nat.{_-_, _≤_}
 use lib.ListN.{length-take, length-drop}
 use Rattle.sha256.specs.Sha256.{chain}
 use Rattle.sha256.proofs.StreamLaws.{chain-none, chain-turn}
-use Rattle.sha256_lanes.specs.Lanes.{lane}
+use Rattle.lanes.specs.Lanes.{lane}
 use Rattle.sha256_four.proofs.FourLaws.{done}
 use Rattle.sha256_four.proofs.blocks4.Statement.{statement}
 use Rattle.sha256_four.proofs.blocks4.Tie as tie

@@ -2,7 +2,7 @@
 use borrow.Author.Needs.{needs}
 use mathlib.Core.Path.{_≡_}
 use Prim.Native.Nat.{_-_, _≤_}
-use Rattle.sha256_lanes.specs.Lanes as N
+use Rattle.sha256_lanes.specs.Rounds as N
 use Rattle.sha256_lanes.proofs.LoopLaws.{ran-none, ran-turn, ran-done}
 use Rattle.sha256_lanes.proofs.rounds4.Statement.{statement}
 use Rattle.sha256_lanes.proofs.rounds4.Tie as tie
