@@ -12,14 +12,14 @@ use Prim.Native.Nat.{ℕ, zero, suc, _+_, _*_, _-_, _≤_}
 use native.Mathlib.Omega.{arith}
 use mathlib.Core.Path.{_≡_, refl, sym, ap, ap₂, _∙_}
 use mathlib.Core.Bool.{Bool, true, false, cond, _&&_}
-use mathlib.Core.List.{List, [], _∷_, _++_, append-nil}
+use mathlib.Core.List.{List, [], _∷_}
 use mathlib.Core.Option.{none, some}
 use borrow.Author.Tests.{eq-eqb, eqb-true, leb-true}
 use lib.ListN.{length, take, drop, replicate, length-drop}
 use lib.Seq.{take-all, drop-drop}
 use lib.Dec.{eqb, leb, ltb}
 use Rattle.octets.specs.Octets.{ofBe, part, put, same}
-use Rattle.octets.proofs.PartLaws.{length-part}
+use Rattle.octets.proofs.PartLaws.{length-part, put-whole}
 use Rattle.chacha20.specs.ChaCha20.{cipher, keyWords}
 use Rattle.aead.specs.Aead.{opens, opened}
 use Rattle.aead.proofs.Sealing.{opened-part}
@@ -36,19 +36,10 @@ use Rattle.records.specs.Fields.{cardOf, messageOf, cardFault, messageFault}
 use Rattle.records.specs.declared.Card as DC
 use Rattle.records.specs.declared.Message as DM
 use Rattle.records.proofs.FaultLaws.{card-rungs, message-rungs, first-swap, first-swap-last, rungs-other, rungs-passed, card-fine, message-fine, message-held, MessageLimits}
-use Rattle.scheme.proofs.LadderLaws.{both, rung}
+use Rattle.scheme.proofs.LadderLaws.{both, rung, kept, done}
 use Rattle.tokens.specs.Keyed.{Keyed, tokenKey}
 use Rattle.tokens.specs.declared.Keys.{Keys}
 use Rattle.tokens.proofs.TokenKeys.{draw-key, hash-key}
-
--- what a refusal leaves, and what an answer writes
-pub kept : {A : Type 0} (code : ℕ) (x y : A) (n : ℕ) → n ≡ code → (n ≡ 0 → ⊥) → y ≡ ifZero code x y
-kept zero x y n e h = absurd (h e)
-kept (suc m) x y n e h = refl
-
-pub done : {A : Type 0} (code : ℕ) (x y : A) (n : ℕ) → n ≡ code → n ≡ 0 → x ≡ ifZero code x y
-done zero x y n e h = refl
-done (suc m) x y n e h = absurd (omega arith)
 
 -- a ladder that gives 0: its record and the rest do too
 accepted : (a : Bool) (code rest : ℕ) → cond a (ifZero code rest code) 1 ≡ 0 → (a ≡ true) × (code ≡ 0) × (rest ≡ 0)
@@ -300,10 +291,7 @@ module _ (reply : List ℕ) (long : length reply ≡ 110) where
       module _ (held : holds ≡ true) (x y : List ℕ) (a : x ≡ put 0 (part 62 32 reply) (replicate 32 0)) (d : y ≡ cipher words 1 nonce x)
           (equal : Bool) (g : equal ≡ same y (part 15 32 reply)) where
         copied : x ≡ part 62 32 reply
-        unfolding put
-        copied =
-            let l : length (part 62 32 reply) ≡ 32 = length-part 62 32 reply (omega arith) in
-            a ∙ ap (λ (n : ℕ). part 62 32 reply ++ drop n (replicate 32 0)) l ∙ append-nil (part 62 32 reply)
+        copied = a ∙ put-whole (part 62 32 reply) (replicate 32 0) (length-part 62 32 reply (omega arith))
 
         token-is : equal ≡ same token (part 15 32 reply)
         token-is = g ∙ ap (λ (u : List ℕ). same u (part 15 32 reply)) (d ∙ ap₂ (λ (u n : List ℕ). cipher u 1 n x) w v ∙ ap (cipher (keyWords key) 1 (nonceBytes ctr i)) copied)

@@ -1,7 +1,6 @@
 -- What set-up makes of a table, and what its parts leave. Assumes nothing.
 --   made                            record i of a new table, under the keys of a call
 --   fill-turn, fill-end             one record more; the whole table
---   whole-copy                      an array copied whole
 --   Held, set-up-held               what an accepted set-up has
 --   set-up-kept                     a refusal leaves card and table
 --   set-up-card, set-up-table       what an accepted set-up writes
@@ -9,10 +8,10 @@ use Prim.Native.Nat.{ℕ, _+_, _*_, _-_, _≤_, _<_}
 use native.Mathlib.Omega.{arith}
 use mathlib.Core.Path.{_≡_, sym, ap, ap₂, _∙_}
 use mathlib.Core.Bool.{_&&_}
-use mathlib.Core.List.{List, _++_, append-nil}
+use mathlib.Core.List.{List}
 use borrow.Author.Tests.{eqb-true}
 use lib.Dec.{eqb}
-use lib.ListN.{length, drop, replicate}
+use lib.ListN.{length}
 use Rattle.octets.specs.Octets.{put}
 use Rattle.octets.proofs.PartLaws.{length-put}
 use Rattle.hmac.specs.declared.Key.{Key}
@@ -21,7 +20,7 @@ use Rattle.scheme.specs.Records.{Card, cardBytes, shapeFits, tokenFits}
 use Rattle.scheme.specs.Table.{sealedRecord}
 use Rattle.scheme.specs.Tokens.{digest, token, keyK, drawKey, hashKey}
 use Rattle.scheme.specs.Calls.{setUpCode, setUpCard, setUpTable}
-use Rattle.scheme.proofs.LadderLaws.{rung, both}
+use Rattle.scheme.proofs.LadderLaws.{rung, both, kept, done}
 use Rattle.scheme.proofs.CallLaws.{set-up-has}
 use Rattle.scheme.proofs.TableLaws.{Filled, filled-step, filled-end, records-same}
 use Rattle.scheme.proofs.RecordLaws.{record-long}
@@ -31,7 +30,6 @@ use Rattle.tokens.specs.Keyed.{Keyed, tokenKey}
 use Rattle.digests.specs.Layout.{Laid}
 use Rattle.tokens.specs.declared.Keys.{Keys}
 use Rattle.tokens.proofs.TokenKeys.{draw-key, hash-key}
-use Rattle.audits.proofs.AuditLaws.{kept, done}
 
 abbrev pub made : Key → Key → List ℕ → ℕ → ℕ → ℕ → List ℕ → ℕ → List ℕ
 made w z k B d r blocks i = sealedRecord standard k 0 i (digest standard (tokenKey w i) (tokenKey z i) d r (pieces B d blocks))
@@ -52,10 +50,6 @@ module _ (w z : Key) (k : List ℕ) (B d r : ℕ) (blocks : List ℕ) (t i : ℕ
 
   pub fill-end : t < i → i ≤ t + 1 → now ≡ recordsFrom (made w z k B d r blocks) t 1
   fill-end a b = filled-end (made w z k B d r blocks) t now i (omega arith) long so-far
-
-pub whole-copy : (id x : List ℕ) → length id ≡ 8 → x ≡ put 0 id (replicate 8 0) → x ≡ id
-unfolding put
-whole-copy id x l e = e ∙ ap (λ (n : ℕ). id ++ drop n (replicate 8 0)) l ∙ append-nil id
 
 pub record Held (master id : List ℕ) (B d r t : ℕ) (blocks card table : List ℕ) : Type 0 where
   pub key32 : length master ≡ 32

@@ -12,9 +12,10 @@ use lib.Bits.{bitXor}
 use lib.ListN.{length, take, drop, length-append, length-drop, length-take, drop-of-length-le}
 use lib.Seq.{length-take-le, take-all, take-at, drop-at}
 use Rattle.octets.specs.Octets.{Bytes, xors}
+use Rattle.octets.proofs.NumberLaws.{bytes-append}
 use Rattle.octets.proofs.XorLaws.{length-xors, xors-undo, xors-bytes}
 use Rattle.chacha20.specs.ChaCha20.{_⊞_, block, stream, cipher}
-use Rattle.chacha20.proofs.BlockLaws.{length-block, block-bytes, bytes-append}
+use Rattle.chacha20.proofs.BlockLaws.{length-block, block-bytes}
 
 -- the key stream is as long as the text, or longer
 length-stream : (k n : List ℕ) (c m : ℕ) → length (stream k c n m) ≡ 64 * m

@@ -6,12 +6,12 @@
 use Prim.Native.Nat.{ℕ, _+_, _*_, _-_, _≤_}
 use native.Mathlib.Omega.{arith}
 use mathlib.Core.Path.{_≡_, sym, ap, ap₂, _∙_}
-use mathlib.Core.List.{List, [], _++_, append-nil, append-assoc}
-use lib.ListN.{length, take, drop, length-append, length-drop, drop-of-length-le}
+use mathlib.Core.List.{List, _++_, append-assoc}
+use lib.ListN.{length, take, drop, length-append}
 use lib.Seq.{length-take-le, take-at}
 use Rattle.octets.specs.Octets.{be, part, put}
 use Rattle.octets.proofs.NumberLaws.{length-be}
-use Rattle.octets.proofs.PartLaws.{length-part, put-put}
+use Rattle.octets.proofs.PartLaws.{length-part, put-put, put-end}
 use Rattle.scheme.specs.Tokens.{blockIn, indexOf}
 use Rattle.digests.specs.Layout.{Seat, said}
 use Rattle.digests.proofs.BlockLaws.{block-end}
@@ -25,18 +25,15 @@ module _ (m xs : List ℕ) (index at B : ℕ) (long : length m ≡ 36 + B) (insi
 
   pub message-laid : (m₁ m₂ : List ℕ) → m₁ ≡ put 32 (be 4 index) m → m₂ ≡ put 36 (take (at + B - at) (drop at xs)) m₁
       → m₂ ≡ take 32 m ++ be 4 index ++ part at B xs
-  unfolding put
   message-laid m₁ m₂ e₁ e₂ =
       let whole : at + B - at ≡ B = omega arith in
       let behind : 32 + length (be 4 index) ≡ 36 = ap (λ (n : ℕ). 32 + n) (length-be 4 index) in
       let room : 32 + length (be 4 index) + length (part at B xs) ≤ length m = omega (arith, length-be 4 index, length-part at B xs inside) in
-      let none : drop (length tail) (drop 32 m) ≡ [] = drop-of-length-le (drop 32 m) {i = length tail} (omega (arith, tail-long, length-drop 32 m)) in
       e₂
       ∙ ap₂ (λ (u v : List ℕ). put 36 u v) (ap (λ (n : ℕ). take n (drop at xs)) whole) e₁
       ∙ ap (λ (n : ℕ). put n (part at B xs) (put 32 (be 4 index) m)) (sym behind)
       ∙ put-put 32 (be 4 index) (part at B xs) m room
-      ∙ ap (λ (u : List ℕ). take 32 m ++ (tail ++ u)) none
-      ∙ ap (λ (u : List ℕ). take 32 m ++ u) (append-nil tail)
+      ∙ put-end 32 tail m (omega (arith, tail-long))
       ∙ sym (append-assoc (take 32 m) (be 4 index) (part at B xs))
 
   whole-long : length (take 32 m ++ be 4 index ++ part at B xs) ≡ 36 + B

@@ -2,21 +2,20 @@
 --   Front, opened, field, number, shape, filled   fields from the first byte on, until they fill the buffer
 --   head-long, front-long                         the lengths of what several records begin with
 --   head-put, front-put, shape-put                length and version, the file id behind them, B, d and r: as they are stored
---   put-whole, taken-part                         a part as long as the list; a part copied over a whole array
 --   card-is, message-is                           a record from its fields
 --   turn-none, turn-is                            the tests of next and open
 --   card-fits-is                                  the tests of a card joined
 use Prim.Native.Nat.{ℕ, _+_, _-_, _≤_, _<_}
 use native.Mathlib.Omega.{arith}
 use mathlib.Core.Path.{_≡_, refl, sym, ap, ap₂, subst, _∙_}
-use mathlib.Core.List.{List, [], _∷_, _++_, append-nil, append-assoc}
+use mathlib.Core.List.{List, [], _∷_, _++_, append-assoc}
 use mathlib.Core.Bool.{Bool, true, false, _&&_, _||_, and-assoc}
 use borrow.Author.Tests.{le-leb, lt-leb, leb-true, leb-false}
 use lib.Dec.{eqb, leb}
-use lib.ListN.{length, take, drop, set, length-append, drop-of-length-le}
+use lib.ListN.{length, set, length-append}
 use Rattle.octets.specs.Octets.{be, ofBe, part, put}
 use Rattle.octets.proofs.NumberLaws.{length-be}
-use Rattle.octets.proofs.PartLaws.{length-part, put-put, put-more}
+use Rattle.octets.proofs.PartLaws.{put-put, put-more, put-whole}
 use Rattle.scheme.specs.Ladder.{within}
 use Rattle.scheme.specs.Records.{Card, readCard, shapeFits, tokenFits, blocksFit, cardFits, Message, readMessage}
 
@@ -85,18 +84,9 @@ shape-put at B d r xs {s} {t} {u} h p q z =
     q ∙ ap₂ (λ (o : ℕ) (v : List ℕ). put o (be 4 d) v) i p ∙ put-put at (be 2 B) (be 4 d) xs (omega arith) in
     z ∙ ap₂ (λ (o : ℕ) (v : List ℕ). put o (be 2 r) v) j two ∙ put-put at (be 2 B ++ be 4 d) (be 2 r) xs (omega arith)
 
--- a part as long as the list
-pub put-whole : (ys xs : List ℕ) → length ys ≡ length xs → put 0 ys xs ≡ ys
-unfolding put
-put-whole ys xs h = ap (λ (l : List ℕ). ys ++ l) (drop-of-length-le xs {i = length ys} (omega arith)) ∙ append-nil ys
-
 -- fields that fill the buffer
 pub filled : {n : ℕ} {ys xs s : List ℕ} → Front n n ys xs s → s ≡ ys
 filled {n} {ys} {xs} f = f .stands ∙ put-whole ys xs (f .ends ∙ sym (f .whole))
-
-pub taken-part : (at w k : ℕ) (xs ys : List ℕ) → k ≡ w → at + w ≤ length xs → length ys ≡ w → put 0 (take k (drop at xs)) ys ≡ part at w xs
-taken-part at w k xs ys e h l =
-    ap (λ (j : ℕ). put 0 (take j (drop at xs)) ys) e ∙ put-whole (part at w xs) ys (length-part at w xs h ∙ sym l)
 
 pub head-put : (len : ℕ) (xs s : List ℕ) → 3 ≤ length xs → s ≡ put 0 (be 2 len) xs → set s 2 1 ≡ put 0 (be 2 len ++ (1 ∷ [])) xs
 head-put len xs s h e =

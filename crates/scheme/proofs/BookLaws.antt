@@ -14,6 +14,7 @@ use mathlib.Core.Option.{some}
 use lib.ListN.{length, take, drop, length-append, length-drop}
 use lib.Seq.{take-append-le, drop-append-le}
 use Rattle.octets.specs.Octets.{put}
+use Rattle.octets.proofs.PartLaws.{put-at}
 use Rattle.scheme.specs.Lists.{joined, recordsFrom}
 use Rattle.scheme.specs.Primitives.{Primitives}
 use Rattle.scheme.specs.Records.{cardBytes, readCard, recordAt}
@@ -24,7 +25,7 @@ use Rattle.scheme.specs.Book.{Book, bookCard, withBlocks, freshToken, fr
 use Rattle.scheme.proofs.TokenLaws.{length-digest}
 use Rattle.scheme.proofs.LimitLaws.{Limits, open-last, open-most}
 use Rattle.scheme.proofs.RecordLaws.{CardSmall, card-back, token-back, record-long, record-at}
-use Rattle.scheme.proofs.TableLaws.{Sized, put-at, length-records}
+use Rattle.scheme.proofs.TableLaws.{Sized, length-records}
 
 module _ (P : Primitives) where
   pub record Good (b : Book) : Type 0 where

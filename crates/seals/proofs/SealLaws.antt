@@ -1,53 +1,27 @@
 -- Laws of token records in a table. Assumes nothing.
---   part-part                        a part of a part
---   put-over                         a part put over another at the same place
 --   record-part                      a part of record i, as a part of the table
 --   opens-is, opens-not              what the checks of a record say of the token in it
 --   fits-head, fits-counter, fits-all   head, counter and number tested in turn
 --   token-is                         the token of a record that opens, deciphered
 --   sealed-is                        the clear bytes, the token and the seal put in place one after the other
-use Prim.Native.Nat.{ℕ, zero, suc, _+_, _*_, _-_, _≤_}
+use Prim.Native.Nat.{ℕ, _+_, _*_, _-_, _≤_}
 use native.Mathlib.Omega.{arith}
 use mathlib.Core.Path.{_≡_, refl, sym, ap, ap₂, _∙_}
-use mathlib.Core.Bool.{Bool, true, false, cond, _&&_}
-use mathlib.Core.List.{List, [], _∷_, _++_, append-nil}
+use mathlib.Core.Bool.{Bool, true, false, cond, _&&_, false≢true}
+use mathlib.Core.List.{List}
 use mathlib.Core.Option.{none, some}
 use lib.ListN.{length, take, drop, replicate, length-drop}
-use native.Mathlib.Nat.{suc-add, add-zero}
-use lib.Seq.{take-take, take-all, take-at, drop-at, drop-drop, drop-append-add, length-take-le}
+use native.Mathlib.Nat.{add-zero}
+use lib.Seq.{take-all}
 use lib.Dec.{eqb}
 use Rattle.octets.specs.Octets.{le, be, ofBe, part, put}
-use Rattle.octets.proofs.PartLaws.{length-part, part-put, length-put, put-put}
+use Rattle.octets.proofs.PartLaws.{length-part, part-part, part-put, length-put, put-put, put-over, put-whole}
 use Rattle.chacha20.specs.ChaCha20.{cipher, keyWords}
 use Rattle.aead.specs.Aead.{opens, opened, seal}
 use Rattle.aead.proofs.Sealing.{opened-part, length-seal-32}
 use Rattle.scheme.specs.Records.{headFits, clearBytes, nonceBytes, recordAt}
 use Rattle.scheme.specs.Table.{there, value, sealedRecord, bodyIn, tokenIn}
-use Rattle.scheme.proofs.LadderLaws.{no-false}
 use Rattle.standard.specs.Standard.{standard}
-
-inner : (b j k : ℕ) (l : List ℕ) → b + j ≤ k → take j (drop b (take k l)) ≡ take j (drop b l)
-inner zero j k l h = take-take j k l (omega arith)
-inner (suc b) j zero l h = absurd (omega (arith, suc-add b j))
-inner (suc b) j (suc k) [] h = refl
-inner (suc b) j (suc k) (x ∷ l) h = inner b j k l (omega (arith, suc-add b j))
-
-pub part-part : (b j a k : ℕ) (xs : List ℕ) → b + j ≤ k → part b j (part a k xs) ≡ part (a + b) j xs
-part-part b j a k xs h = inner b j k (drop a xs) h ∙ ap (take j) (drop-drop b a xs)
-
-pub put-over : (at : ℕ) (ys zs xs : List ℕ) → at + length zs ≤ length xs → length ys ≤ length zs → put at zs (put at ys xs) ≡ put at zs xs
-unfolding put
-put-over at ys zs xs h g =
-    let f : at + length ys ≤ length xs = omega arith in
-    let la : length (take at xs) ≡ at = length-take-le at xs (omega arith) in
-    let d : drop at (put at ys xs) ≡ ys ++ drop (length ys) (drop at xs) = drop-at (take at xs) (ys ++ drop (length ys) (drop at xs)) at la in
-    let r : length ys + (length zs - length ys) ≡ length zs = omega arith in
-    ap₂ (λ (u v : List ℕ). u ++ (zs ++ drop (length zs) v)) (take-at (take at xs) (ys ++ drop (length ys) (drop at xs)) at la) d
-    ∙ ap (λ (v : List ℕ). take at xs ++ (zs ++ v))
-    (ap (λ (n : ℕ). drop n (ys ++ drop (length ys) (drop at xs))) (sym r)
-    ∙ drop-append-add ys (drop (length ys) (drop at xs)) (length zs - length ys)
-    ∙ drop-drop (length zs - length ys) (length ys) (drop at xs)
-    ∙ ap (λ (n : ℕ). drop n (drop at xs)) r)
 
 -- record i of a table begins at (i - 1) * 63
 module _ (i : ℕ) (table : List ℕ) where
@@ -111,8 +85,8 @@ module _ (i : ℕ) (table : List ℕ) where
           x = cipher (keyWords key) 1 (nonceBytes ctr i) (part ((i - 1) * 63 + 15) 32 table)
 
           go : (b : Bool) → clear-fits ≡ b → (g : Bool) → tag-holds ≡ g → x ≡ value (tokenIn standard key ctr i (recordAt i table))
-          go false e g f = no-false (opens-not e ∙ h)
-          go true e false f = no-false (sym f ∙ (opens-is tag-holds e refl ∙ h))
+          go false e g f = absurd (false≢true (opens-not e ∙ h))
+          go true e false f = absurd (false≢true (sym f ∙ (opens-is tag-holds e refl ∙ h)))
           go true e true f = ap value (sym (fits-body e ∙ body-is ∙ ap (λ (z : Bool). cond z (some x) none) f))
 
 length-clear : (ctr i : ℕ) → length (clearBytes ctr i) ≡ 15
@@ -178,13 +152,11 @@ module _ (key kw nonce table : List ℕ) (ctr i a : ℕ) (i1 : 1 ≤ i) (inside 
   pub token-out : (x y : List ℕ) → kw ≡ keyWords key → nonce ≡ nonceBytes ctr i
       → x ≡ put 0 (take (a + 15 + 32 - (a + 15)) (drop (a + 15) table)) (replicate 32 0) → y ≡ cipher kw 1 nonce x
       → there (tokenIn standard key ctr i (recordAt i table)) ≡ true → y ≡ value (tokenIn standard key ctr i (recordAt i table))
-  unfolding put
   token-out x y ek en ex ey h =
       let q : a + 15 + 32 - (a + 15) ≡ 32 = omega arith in
       let p : List ℕ = part ((i - 1) * 63 + 15) 32 table in
       let l : length p ≡ 32 = length-part ((i - 1) * 63 + 15) 32 table (omega (arith, within-table)) in
-      let z : p ++ drop (length p) (replicate 32 0) ≡ p = ap (λ (n : ℕ). p ++ drop n (replicate 32 0)) l ∙ append-nil p in
-      let e : x ≡ p = ex ∙ rw (q, ea) z in
+      let e : x ≡ p = ex ∙ rw (q, ea) (put-whole p (replicate 32 0) l) in
       ey ∙ rw (ek, en, e) (token-is i table within-table key ctr h)
 
   pub seal-out : (x clear t1 t2 t3 : List ℕ) → length x ≡ 32 → kw ≡ keyWords key → nonce ≡ nonceBytes ctr i → clear ≡ clearBytes ctr i

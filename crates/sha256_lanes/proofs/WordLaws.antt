@@ -4,48 +4,10 @@
 use mathlib.Core.Path.{_≡_, sym, ap, _∙_}
 use mathlib.Core.List.{List, [], _∷_}
 use Prim.Native.Nat.{ℕ}
-use native.Mathlib.Omega.{arith}
-use lib.ListN.{length, getD, drop, drop-of-length-le}
-use lib.Seq.{drop-cons}
+use lib.ListN.{length, getD}
+use Rattle.octets.proofs.ListLaws.{eta16}
 use Rattle.sha256.specs.Sha256.{round}
 use Rattle.sha256_lanes.specs.Rounds.{runs, nextWord, slid, slides}
-
--- eight words and sixteen are the lists of their elements
-pub eta8 : (v : List ℕ) → length v ≡ 8
-    → (getD v 0 0 ∷ getD v 1 0 ∷ getD v 2 0 ∷ getD v 3 0 ∷ getD v 4 0 ∷ getD v 5 0 ∷ getD v 6 0 ∷ getD v 7 0 ∷ []) ≡ v
-eta8 v l =
-    let e0 = drop-cons v 0 0 (omega arith) in
-    let e1 = drop-cons v 1 0 (omega arith) in
-    let e2 = drop-cons v 2 0 (omega arith) in
-    let e3 = drop-cons v 3 0 (omega arith) in
-    let e4 = drop-cons v 4 0 (omega arith) in
-    let e5 = drop-cons v 5 0 (omega arith) in
-    let e6 = drop-cons v 6 0 (omega arith) in
-    let e7 = drop-cons v 7 0 (omega arith) in
-    let e8 : drop 8 v ≡ [] = drop-of-length-le v {i = 8} (omega arith) in
-    cc
-
-eta16 : (v : List ℕ) → length v ≡ 16
-    → (getD v 0 0 ∷ getD v 1 0 ∷ getD v 2 0 ∷ getD v 3 0 ∷ getD v 4 0 ∷ getD v 5 0 ∷ getD v 6 0 ∷ getD v 7 0 ∷ getD v 8 0 ∷ getD v 9 0 ∷ getD v 10 0 ∷ getD v 11 0 ∷ getD v 12 0 ∷ getD v 13 0 ∷ getD v 14 0 ∷ getD v 15 0 ∷ []) ≡ v
-eta16 v l =
-    let e0 = drop-cons v 0 0 (omega arith) in
-    let e1 = drop-cons v 1 0 (omega arith) in
-    let e2 = drop-cons v 2 0 (omega arith) in
-    let e3 = drop-cons v 3 0 (omega arith) in
-    let e4 = drop-cons v 4 0 (omega arith) in
-    let e5 = drop-cons v 5 0 (omega arith) in
-    let e6 = drop-cons v 6 0 (omega arith) in
-    let e7 = drop-cons v 7 0 (omega arith) in
-    let e8 = drop-cons v 8 0 (omega arith) in
-    let e9 = drop-cons v 9 0 (omega arith) in
-    let e10 = drop-cons v 10 0 (omega arith) in
-    let e11 = drop-cons v 11 0 (omega arith) in
-    let e12 = drop-cons v 12 0 (omega arith) in
-    let e13 = drop-cons v 13 0 (omega arith) in
-    let e14 = drop-cons v 14 0 (omega arith) in
-    let e15 = drop-cons v 15 0 (omega arith) in
-    let e16 : drop 16 v ≡ [] = drop-of-length-le v {i = 16} (omega arith) in
-    cc
 
 module _ (q w v v0 v1 v2 v3 v4 v5 v6 v7 v8 v9 v10 v11 v12 v13 v14 v15 v16 : List ℕ) where
   pub rounds16-is : v0 ≡ v

@@ -1,5 +1,4 @@
 -- A refusal leaves the reply, by prove-kept; else it holds digest and record, by prove-done.
-use Prim.Native.Nat.{_-_}
 use mathlib.Core.List.{List}
 use Prim.Native.Nat.{ℕ}
 use mathlib.Core.Path.{sym, ap₂, _∙_}

@@ -1,7 +1,7 @@
 -- The code by change-early, change-bad and change-passed; a refusal leaves card and table by left; what is written is the scheme's by made.
 use native.Mathlib.Omega.{arith}
 use Prim.Native.Nat.{_+_, _*_, _-_, _≤_}
-use mathlib.Core.Path.{_≡_, sym, _∙_}
+use mathlib.Core.Path.{sym, _∙_}
 use Rattle.records.specs.Fields.{cardOf}
 use Rattle.changes.specs.Edits.{editOf}
 use Rattle.changes.proofs.KindLaws.{handed-any}

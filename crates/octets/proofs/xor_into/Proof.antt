@@ -1,7 +1,7 @@
 -- What is done and what is left give the xor, by xor-again.
 use borrow.Author.Needs.{needs}
 use Rattle.octets.proofs.LoopLaws.{xor-none, xor-again, xor-done}
-use Prim.Native.Nat.{_+_, _-_, _≤_}
+use Prim.Native.Nat.{_-_, _≤_}
 use mathlib.Core.Path.{_≡_, refl}
 use native.Mathlib.Omega.{arith}
 use mathlib.Core.List.{_++_}

@@ -5,7 +5,8 @@ use mathlib.Core.Path.{_≡_}
 use Prim.Native.Nat.{_-_, _≤_, _%_}
 use Rattle.sha256.specs.Sha256 as S
 use Rattle.sha256.specs.View.{words}
-use Rattle.sha256.proofs.RoundLaws.{eight, zero, eta, done}
+use Rattle.octets.proofs.ListLaws.{eta8}
+use Rattle.sha256.proofs.RoundLaws.{eight, zero, done}
 use Rattle.sha256.proofs.rounds.Statement.{statement}
 use Rattle.sha256.proofs.rounds.Tie as tie
 
@@ -231,7 +232,7 @@ returns : tie.Need-returns Inv-loop μ-loop
 unfolding words
 returns c =
     let l = c .before .loop in
-    done _ _ _ _ _ (search needs) (l .inv .0) (eta _ (search needs)) (l .inv .2)
+    done _ _ _ _ _ (search needs) (l .inv .0) (eta8 _ (search needs)) (l .inv .2)
 
 pub rounds-spec : {M : Type 1} → statement M
 rounds-spec =

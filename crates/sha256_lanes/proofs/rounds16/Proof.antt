@@ -1,7 +1,8 @@
 -- Sixteen rounds in turn, by rounds16-is.
 use borrow.Author.Needs.{needs}
 use Rattle.sha256.specs.View.{words}
-use Rattle.sha256_lanes.proofs.WordLaws.{eta8, rounds16-is}
+use Rattle.octets.proofs.ListLaws.{eta8}
+use Rattle.sha256_lanes.proofs.WordLaws.{rounds16-is}
 use Rattle.sha256_lanes.proofs.rounds16.Statement.{statement}
 use Rattle.sha256_lanes.proofs.rounds16.Tie as tie
 
