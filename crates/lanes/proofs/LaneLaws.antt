@@ -58,8 +58,7 @@ put-apart : (s : List ℕ) (k i j : ℕ) (xs : List ℕ) (n : ℕ) → k < 4 →
 unfolding laneFrom
 put-apart s k i j xs zero a b d = refl
 put-apart s k i j xs (suc n) a b d =
-    let e : getD (putFrom s k 0 xs) (i + 4 * j) 0 ≡ getD s (i + 4 * j) 0 =
-    put-other s k 0 xs (i + 4 * j) (λ p h e. d (omega arith)) in
+    let e : getD (putFrom s k 0 xs) (i + 4 * j) 0 ≡ getD s (i + 4 * j) 0 = put-other s k 0 xs (i + 4 * j) (λ p h e. d (omega arith)) in
     let f : laneFrom i (putFrom s k 0 xs) (suc j) n ≡ laneFrom i s (suc j) n = put-apart s k i (suc j) xs n a b d in
     cc
 

@@ -138,7 +138,11 @@ unfolding rounds
 first m h w s k a l e p =
     record {
       window-is = e;
-      state-is = ap (λ (x : List ℕ). lane k x 8) p ∙ ran-lane 0 w h k l a ∙ ap (λ (x : List ℕ). runs (roundWords 0) x (lane k h 8) 16) e ∙ runs-window m (lane k h 8) 0 16 (omega arith) (omega arith);
+      state-is =
+          ap (λ (x : List ℕ). lane k x 8) p
+          ∙ ran-lane 0 w h k l a
+          ∙ ap (λ (x : List ℕ). runs (roundWords 0) x (lane k h 8) 16) e
+          ∙ runs-window m (lane k h 8) 0 16 (omega arith) (omega arith);
     }
 
 turn : (m h w s w′ s′ : List ℕ) (k t : ℕ) → k < 4 → t < 48 → t % 16 ≡ 0 → length w ≡ 64 → length s ≡ 32 → w′ ≡ moved 4 w → s′ ≡ ran (t + 16) w′ 4 s

@@ -67,7 +67,8 @@ pub ran-none : (t : ℕ) (w s : List ℕ) → s ≡ ran t w 0 s
 unfolding ran each
 ran-none t w s = refl
 
-pub ran-turn : (t k : ℕ) (w s s₀ q x z y s′ : List ℕ) → s ≡ ran t w k s₀ → q ≡ roundWords t → x ≡ lane k s 8 → z ≡ lane k w 16 → y ≡ runs q z x 16 → s′ ≡ putLane s k y → s′ ≡ ran t w (k + 1) s₀
+pub ran-turn : (t k : ℕ) (w s s₀ q x z y s′ : List ℕ) → s ≡ ran t w k s₀ → q ≡ roundWords t → x ≡ lane k s 8 → z ≡ lane k w 16 → y ≡ runs q z x 16
+    → s′ ≡ putLane s k y → s′ ≡ ran t w (k + 1) s₀
 unfolding ran each
 ran-turn t k w s s₀ q x z y s′ a b d e f g = g ∙ rw (f, b, d, e, a, add-one)
 

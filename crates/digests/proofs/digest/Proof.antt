@@ -65,25 +65,37 @@ array-borrow-prefix-m0 : tie.Need-array-borrow-prefix-m0 Inv-loop μ-loop
 array-borrow-prefix-m0 c = omega (arith, c .before .before .before .before .before .before .before .before .before .before .before .pre .0 .small)
 
 slice-aggregate-fours-2 : tie.Need-slice-aggregate-fours-2 Inv-loop μ-loop
-slice-aggregate-fours-2 c = cut-long (c .before .before .before .before .before .keyed .result) (c .before .before .before .before .before .before .before .before .before .before .before .before .args .size) (c .before .before .before .before .before .keyed .ensures .1) (c .before .before .before .before .before .before .before .before .before .before .before .before .pre .0 .small)
+slice-aggregate-fours-2 c =
+    let s = c .before .before .before .before .before .before .before .before .before .before .before .before in
+    let keyed = c .before .before .before .before .before .keyed in
+    cut-long (keyed .result) (s .args .size) (keyed .ensures .1) (s .pre .0 .small)
 
 array-borrow-prefix-m1 : tie.Need-array-borrow-prefix-m1 Inv-loop μ-loop
 array-borrow-prefix-m1 c = omega (arith, c .before .before .before .before .before .before .before .before .before .before .before .before .pre .0 .small)
 
 slice-aggregate-fours-3 : tie.Need-slice-aggregate-fours-3 Inv-loop μ-loop
-slice-aggregate-fours-3 c = cut-long (c .before .before .before .before .before .keyed2 .result) (c .before .before .before .before .before .before .before .before .before .before .before .before .before .args .size) (c .before .before .before .before .before .keyed2 .ensures .1) (c .before .before .before .before .before .before .before .before .before .before .before .before .before .pre .0 .small)
+slice-aggregate-fours-3 c =
+    let s = c .before .before .before .before .before .before .before .before .before .before .before .before .before in
+    let keyed2 = c .before .before .before .before .before .keyed2 in
+    cut-long (keyed2 .result) (s .args .size) (keyed2 .ensures .1) (s .pre .0 .small)
 
 array-borrow-prefix-m2 : tie.Need-array-borrow-prefix-m2 Inv-loop μ-loop
 array-borrow-prefix-m2 c = omega (arith, c .before .before .before .before .before .before .before .before .before .before .before .before .before .pre .0 .small)
 
 slice-aggregate-fours-4 : tie.Need-slice-aggregate-fours-4 Inv-loop μ-loop
-slice-aggregate-fours-4 c = cut-long (c .before .before .before .before .before .keyed3 .result) (c .before .before .before .before .before .before .before .before .before .before .before .before .before .before .args .size) (c .before .before .before .before .before .keyed3 .ensures .1) (c .before .before .before .before .before .before .before .before .before .before .before .before .before .before .pre .0 .small)
+slice-aggregate-fours-4 c =
+    let s = c .before .before .before .before .before .before .before .before .before .before .before .before .before .before in
+    let keyed3 = c .before .before .before .before .before .keyed3 in
+    cut-long (keyed3 .result) (s .args .size) (keyed3 .ensures .1) (s .pre .0 .small)
 
 array-borrow-prefix-m3 : tie.Need-array-borrow-prefix-m3 Inv-loop μ-loop
 array-borrow-prefix-m3 c = omega (arith, c .before .before .before .before .before .before .before .before .before .before .before .before .before .before .pre .0 .small)
 
 slice-aggregate-fours-5 : tie.Need-slice-aggregate-fours-5 Inv-loop μ-loop
-slice-aggregate-fours-5 c = cut-long (c .before .before .before .before .before .keyed4 .result) (c .before .before .before .before .before .before .before .before .before .before .before .before .before .before .before .args .size) (c .before .before .before .before .before .keyed4 .ensures .1) (c .before .before .before .before .before .before .before .before .before .before .before .before .before .before .before .pre .0 .small)
+slice-aggregate-fours-5 c =
+    let s = c .before .before .before .before .before .before .before .before .before .before .before .before .before .before .before in
+    let keyed4 = c .before .before .before .before .before .keyed4 in
+    cut-long (keyed4 .result) (s .args .size) (keyed4 .ensures .1) (s .pre .0 .small)
 
 fours-requires : tie.Need-fours-requires Inv-loop μ-loop
 fours-requires c κs =
@@ -94,7 +106,8 @@ fours-requires c κs =
       (
         s .pre .0,
         s .pre .1,
-        subst (λ (w : List ℕ). Tabled w (half (a .rows)) (take (tabled .tabulated .result) (tabled .tabulated .last .1 .1 .1 .0))) (tabled .before .before .key-words .ensures) (tabled .tabulated .ensures .2),
+        subst (λ (w : List ℕ). Tabled w (half (a .rows)) (take (tabled .tabulated .result) (tabled .tabulated .last .1 .1 .1 .0)))
+            (tabled .before .before .key-words .ensures) (tabled .tabulated .ensures .2),
       ),
       (
         message-cut (a .c) _ (a .size) (fourth .before .before .before .keyed .ensures) (s .pre .0 .small),
@@ -105,7 +118,10 @@ fours-requires c κs =
     )
 
 mul-drawn : tie.Need-mul-drawn Inv-loop μ-loop
-mul-drawn c = omega (arith, c .before .before .before .before .before .before .before .before .before .before .before .before .before .before .before .before .before .before .before .before .pre .1, c .before .before .before .before .before .before .before .before .before .before .before .before .before .before .before .before .before .before .before .before .pre .0 .few-rows)
+mul-drawn c =
+    let p = c .before .before .before .before .before .before .before .before .before .before in
+    let s = p .before .before .before .before .before .before .before .before .before .before in
+    omega (arith, s .pre .1, s .pre .0 .few-rows)
 
 loop-holds : tie.Need-loop-holds Inv-loop μ-loop
 loop-holds c =
@@ -113,11 +129,17 @@ loop-holds c =
     let s = made .before .before .before .before .before .before .before .before .before .before .before .before .before .before .before .before in
     let a = s .args in (
       omega arith,
-      λ k e. made .fours .ensures ∙ under-key (a .t1) k (a .c) (a .rows) (a .positions / 4 * 4) (pieces (a .size) (a .count) (a .blocks .now)) (sym (made .before .before .before .before .before .before .before .before .before .before .before .before .before .key-words .ensures) ∙ e),
+      λ k e. made .fours .ensures
+          ∙ under-key (a .t1) k (a .c) (a .rows) (a .positions / 4 * 4) (pieces (a .size) (a .count) (a .blocks .now))
+          (sym (made .before .before .before .before .before .before .before .before .before .before .before .before .before .key-words .ensures) ∙ e),
     )
 
 add-t42 : tie.Need-add-t42 Inv-loop μ-loop
-add-t42 c = omega (arith, c .loop-test .taken, c .before .before .before .before .before .before .before .before .before .before .before .before .before .before .before .before .before .before .before .before .before .before .pre .1, c .before .before .before .before .before .before .before .before .before .before .before .before .before .before .before .before .before .before .before .before .before .before .pre .0 .few-rows)
+add-t42 c =
+    let p = c .before .before .before .before .before .before .before .before .before .before in
+    let q = p .before .before .before .before .before .before .before .before .before .before in
+    let s = q .before .before in
+    omega (arith, c .loop-test .taken, s .pre .1, s .pre .0 .few-rows)
 
 array-share-prefix-table-2 : tie.Need-array-share-prefix-table-2 Inv-loop μ-loop
 array-share-prefix-table-2 c =
@@ -131,16 +153,20 @@ slice-aggregate-drawn-row c =
 
 drawn-row-requires : tie.Need-drawn-row-requires Inv-loop μ-loop
 drawn-row-requires c κs =
-    let s = c .before .before .before .before .before .before .before .before .before .before .before .before .before .before .before .before .before .before .before .before .before .before .before in (
+    let p = c .before .before .before .before .before .before .before .before .before .before in
+    let q = p .before .before .before .before .before .before .before .before .before .before in
+    let s = q .before .before .before in (
       omega arith,
       omega (arith, c .before .loop-test .taken, s .pre .1),
       s .pre .0 .few-rows,
-      c .before .before .before .before .before .before .before .before .before .before .before .before .before .before .before .before .before .before .tabulated .ensures .2,
+      p .before .before .before .before .before .before .before .before .tabulated .ensures .2,
     )
 
 row-digest-requires : tie.Need-row-digest-requires Inv-loop μ-loop
 row-digest-requires c κs =
-    let s = c .before .before .before .before .before .before .before .before .before .before .before .before .before .before .before .before .before .before .before .before .before .before .before .before in
+    let p = c .before .before .before .before .before .before .before .before .before .before in
+    let q = p .before .before .before .before .before .before .before .before .before .before in
+    let s = q .before .before .before .before in
     let row = c .drawn-row .ensures .1 in
     (s .pre .0, row .from-one, row .most, omega (arith, c .before .before .loop-test .taken, s .pre .1, s .pre .0 .few-rows))
 
@@ -148,7 +174,11 @@ xor32-requires : tie.Need-xor32-requires Inv-loop μ-loop
 xor32-requires c κs = search needs
 
 add-drawn : tie.Need-add-drawn Inv-loop μ-loop
-add-drawn c = omega (arith, c .before .before .before .before .loop-test .taken, c .before .before .before .before .before .before .before .before .before .before .before .before .before .before .before .before .before .before .before .before .before .before .before .before .before .before .pre .1, c .before .before .before .before .before .before .before .before .before .before .before .before .before .before .before .before .before .before .before .before .before .before .before .before .before .before .pre .0 .few-rows)
+add-drawn c =
+    let p = c .before .before .before .before .before .before .before .before .before .before in
+    let q = p .before .before .before .before .before .before .before .before .before .before in
+    let s = q .before .before .before .before .before .before in
+    omega (arith, c .before .before .before .before .loop-test .taken, s .pre .1, s .pre .0 .few-rows)
 
 loop-less : tie.Need-loop-less Inv-loop μ-loop
 loop-less c = omega (arith, c .before .before .before .before .loop-test .taken)
@@ -159,7 +189,8 @@ loop-again c =
     let row = hashed .before in
     let turn = row .before .before in
     let l = turn .before .loop in
-    let a = turn .before .before .before .before .before .before .before .before .before .before .before .before .before .before .before .before .before .before .before .before .before .before .args in (
+    let p = turn .before .before .before .before .before .before .before .before .before .before in
+    let a = p .before .before .before .before .before .before .before .before .before .before .before .before .args in (
       omega (arith, turn .loop-test .taken),
       λ k e. position-turn k (a .c) (a .rows) (pieces (a .size) (a .count) (a .blocks .now)) (l .drawn) _ _ _ _ _ e
           (row .drawn-row .ensures .0)
@@ -170,12 +201,14 @@ loop-again c =
 
 returns : tie.Need-returns Inv-loop μ-loop
 returns c =
+    let p = c .before .before .before .before .before .before .before .before .before .before in
+    let q = p .before .before .before .before .before .before .before .before .before .before in
     let l = c .before .loop in
-    let s = c .before .before .before .before .before .before .before .before .before .before .before .before .before .before .before .before .before .before .before .before .before .before in
+    let s = q .before .before in
     let a = s .args in
     digest-done (a .t1) (a .c) (a .rows) (pieces (a .size) (a .count) (a .blocks .now)) (l .drawn) (a .positions) _
     (l .inv .0) (c .loop-test .left)
-    (l .inv .1 (a .t1) (c .before .before .before .before .before .before .before .before .before .before .before .before .before .before .before .before .before .before .before .key-words .ensures))
+    (l .inv .1 (a .t1) (p .before .before .before .before .before .before .before .before .before .key-words .ensures))
 
 pub digest-spec : {M : Type 1} → statement M
 digest-spec =

@@ -62,7 +62,11 @@ four-more-requires c κs =
     )
 
 add-i : tie.Need-add-i Inv-loop μ-loop
-add-i c = omega (arith, c .before .before .before .before .before .before .before .before .before .before .before .before .before .loop-test .taken, c .before .before .before .before .before .before .before .before .before .before .before .before .before .before .before .before .before .before .before .before .before .before .before .pre .0 .1, c .before .before .before .before .before .before .before .before .before .before .before .before .before .before .before .before .before .before .before .before .before .before .before .pre .0 .0 .few-rows)
+add-i c =
+    let p = c .before .before .before .before .before .before .before .before .before .before in
+    let q = p .before .before .before .before .before .before .before .before .before .before in
+    let s = q .before .before .before in
+    omega (arith, p .before .before .before .loop-test .taken, s .pre .0 .1, s .pre .0 .0 .few-rows)
 
 loop-less : tie.Need-loop-less Inv-loop μ-loop
 loop-less c = omega (arith, c .before .before .before .before .before .before .before .before .before .before .before .before .before .loop-test .taken)
@@ -98,7 +102,8 @@ returns : tie.Need-returns Inv-loop μ-loop
 returns c =
     let l = c .before .loop in
     let a = c .before .before .before .before .before .before .before .before .before .before .args in
-    fours-done _ (a .c) (a .rows) (pieces (a .size) (a .count) (a .blocks .now)) (a .t1) (c .before .before .key-words .ensures) (l .i) (a .positions / 4) _ (l .inv .0) (c .loop-test .left)
+    fours-done _ (a .c) (a .rows) (pieces (a .size) (a .count) (a .blocks .now)) (a .t1) (c .before .before .key-words .ensures) (l .i)
+    (a .positions / 4) _ (l .inv .0) (c .loop-test .left)
     (l .inv .5 (a .t1) (c .before .before .key-words .ensures))
 
 pub fours-spec : {M : Type 1} → statement M

@@ -53,7 +53,8 @@ returns c =
     let indexed = stored .before .before in
     let placed = indexed .before in
     let a = placed .before .before .before .args in
-    message-laid (a .message .now) (a .blocks .now) (indexed .index-of .result) (placed .start-of .result) (a .size) (placed .before .before .before .pre .0 .room) (within placed) _ _
+    message-laid (a .message .now) (a .blocks .now) (indexed .index-of .result) (placed .start-of .result) (a .size)
+    (placed .before .before .before .pre .0 .room) (within placed) _ _
     (stored .put-be4 .ensures) (copied .copy .ensures)
     ∙ ap₂ (λ (i at : ℕ). take 32 (a .message .now) ++ be 4 i ++ part at (a .size) (a .blocks .now)) (indexed .index-of .ensures) (placed .start-of .ensures .0)
 

@@ -66,8 +66,10 @@ loop-holds c =
     let key = g .0 .key in
     let q = least .common .result in (
       lane-begun (a .c) (a .rows) (a .row0 .0) (a .j .0) (a .size) (a .count) (a .blocks .now) _ q _ _ key (p .1) (least .common .ensures .0) (first .row-from .ensures) (g .0),
-      lane-begun (a .c) (a .rows) (a .row1 .0) (a .j .0 + 1) (a .size) (a .count) (a .blocks .now) _ q _ _ key (p .2) (least .common .ensures .1) (second .row-from2 .ensures) (g .1),
-      lane-begun (a .c) (a .rows) (a .row2 .0) (a .j .0 + 2) (a .size) (a .count) (a .blocks .now) _ q _ _ key (p .3) (least .common .ensures .2) (third .row-from3 .ensures) (g .2),
+      lane-begun (a .c) (a .rows) (a .row1 .0) (a .j .0 + 1) (a .size) (a .count) (a .blocks .now) _ q _ _ key (p .2) (least .common .ensures .1)
+          (second .row-from2 .ensures) (g .1),
+      lane-begun (a .c) (a .rows) (a .row2 .0) (a .j .0 + 2) (a .size) (a .count) (a .blocks .now) _ q _ _ key (p .3) (least .common .ensures .2)
+          (third .row-from3 .ensures) (g .2),
       lane-begun (a .c) (a .rows) (a .row3 .0) (a .j .0 + 3) (a .size) (a .count) (a .blocks .now) _ q _ _ key (p .4) (least .common .ensures .3) (c .row-from4 .ensures) (g .3),
     )
 
@@ -102,11 +104,15 @@ xor32-requires-4 : tie.Need-xor32-requires-4 Inv-loop μ-loop
 xor32-requires-4 c κs = search needs
 
 loop-less : tie.Need-loop-less Inv-loop μ-loop
-loop-less c = omega (arith, c .before .before .before .before .before .before .before .before .before .before .before .before .before .before .before .before .before .before .before .before .before .loop-test .taken)
+loop-less c =
+    let p = c .before .before .before .before .before .before .before .before .before .before in
+    let q = p .before .before .before .before .before .before .before .before .before .before in
+    omega (arith, q .before .loop-test .taken)
 
 loop-again : tie.Need-loop-again Inv-loop μ-loop
 loop-again c =
-    let hashed = c .before .before .before .before .before .before .before .before .before .before .before .before .before .before .before .before in
+    let p = c .before .before .before .before .before .before .before .before .before .before in
+    let hashed = p .before .before .before .before .before .before in
     let turn = hashed .before .before .before .before .before in
     let l = turn .before .loop in
     let s = turn .before .before .before .before .before .before .before .before .before .before .before .before .before .before .before in
@@ -114,23 +120,34 @@ loop-again c =
     let laid = s .pre .0 .0 in
     let some : 0 < l .q = omega (arith, turn .loop-test .taken) in
     let h = hashed .column-hashes .ensures in (
-      lane-turn _ (a .rows) (a .row0 .0) (a .j .0) (a .size) (a .count) (a .blocks .now) laid (l .q) _ _ some (l .inv .0) _ _ _ (h .1 .0) (h .0 .0) (c .before .before .before .xor32 .ensures),
-      lane-turn _ (a .rows) (a .row1 .0) (a .j .0 + 1) (a .size) (a .count) (a .blocks .now) laid (l .q) _ _ some (l .inv .1) _ _ _ (h .1 .1 .0) (h .0 .1) (c .before .before .xor322 .ensures),
-      lane-turn _ (a .rows) (a .row2 .0) (a .j .0 + 2) (a .size) (a .count) (a .blocks .now) laid (l .q) _ _ some (l .inv .2) _ _ _ (h .1 .1 .1 .0) (h .0 .2) (c .before .xor323 .ensures),
+      lane-turn _ (a .rows) (a .row0 .0) (a .j .0) (a .size) (a .count) (a .blocks .now) laid (l .q) _ _ some (l .inv .0) _ _ _ (h .1 .0) (h .0 .0)
+          (c .before .before .before .xor32 .ensures),
+      lane-turn _ (a .rows) (a .row1 .0) (a .j .0 + 1) (a .size) (a .count) (a .blocks .now) laid (l .q) _ _ some (l .inv .1) _ _ _ (h .1 .1 .0)
+          (h .0 .1) (c .before .before .xor322 .ensures),
+      lane-turn _ (a .rows) (a .row2 .0) (a .j .0 + 2) (a .size) (a .count) (a .blocks .now) laid (l .q) _ _ some (l .inv .2) _ _ _ (h .1 .1 .1 .0)
+          (h .0 .2) (c .before .xor323 .ensures),
       lane-turn _ (a .rows) (a .row3 .0) (a .j .0 + 3) (a .size) (a .count) (a .blocks .now) laid (l .q) _ _ some (l .inv .3) _ _ _ (h .1 .1 .1 .1) (h .0 .3) (c .xor324 .ensures),
     )
 
 same-length : tie.Need-same-length Inv-loop μ-loop
-same-length c = c .before .loop .inv .0 .message .long ∙ sym (c .before .before .before .before .before .before .before .before .before .before .before .before .before .before .before .pre .1 .0 .long)
+same-length c =
+    c .before .loop .inv .0 .message .long
+    ∙ sym (c .before .before .before .before .before .before .before .before .before .before .before .before .before .before .before .pre .1 .0 .long)
 
 same-length-2 : tie.Need-same-length-2 Inv-loop μ-loop
-same-length-2 c = c .before .loop .inv .1 .message .long ∙ sym (c .before .before .before .before .before .before .before .before .before .before .before .before .before .before .before .pre .1 .1 .long)
+same-length-2 c =
+    c .before .loop .inv .1 .message .long
+    ∙ sym (c .before .before .before .before .before .before .before .before .before .before .before .before .before .before .before .pre .1 .1 .long)
 
 same-length-3 : tie.Need-same-length-3 Inv-loop μ-loop
-same-length-3 c = c .before .loop .inv .2 .message .long ∙ sym (c .before .before .before .before .before .before .before .before .before .before .before .before .before .before .before .pre .1 .2 .long)
+same-length-3 c =
+    c .before .loop .inv .2 .message .long
+    ∙ sym (c .before .before .before .before .before .before .before .before .before .before .before .before .before .before .before .pre .1 .2 .long)
 
 same-length-4 : tie.Need-same-length-4 Inv-loop μ-loop
-same-length-4 c = c .before .loop .inv .3 .message .long ∙ sym (c .before .before .before .before .before .before .before .before .before .before .before .before .before .before .before .pre .1 .3 .long)
+same-length-4 c =
+    c .before .loop .inv .3 .message .long
+    ∙ sym (c .before .before .before .before .before .before .before .before .before .before .before .before .before .before .before .pre .1 .3 .long)
 
 returns : tie.Need-returns Inv-loop μ-loop
 returns c =
