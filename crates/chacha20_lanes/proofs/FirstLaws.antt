@@ -1,69 +1,20 @@
 -- Four states in lanes: each function's law over plain variables, for any lane.
---   get-*, put-*                     the loops that read and write a lane
 --   states-*, each-*, doubles-*      the loops over the lanes and over the rounds
 --   double-lane, doubles-lane        a lane of the rounds of all lanes is the rounds of that lane
 --   states-lane                      a lane of the states is its state
 --   firsts-is                        the sums of the lanes' first words are the blocks' first words
 -- Assumes nothing.
 use mathlib.Core.Path.{_≡_, refl, sym, ap, ap₂, _∙_}
-use mathlib.Core.List.{List, [], _∷_, _++_}
-use Prim.Native.Nat.{ℕ, zero, suc, _+_, _*_, _≤_, _<_}
+use mathlib.Core.List.{List, [], _∷_}
+use Prim.Native.Nat.{ℕ, zero, suc, _+_, _≤_, _<_}
 use native.Mathlib.Numerals.{add-one}
 use native.Mathlib.Nat.{add-zero}
 use native.Mathlib.Omega.{arith}
-use lib.ListN.{length, take, getD, set, length-set, length-append}
-use lib.Seq.{length-take-le, take-suc, take-all, take-suc-set}
+use lib.ListN.{length, getD, length-set, length-append}
 use Rattle.chacha20.specs.ChaCha20.{_⊞_, qround, double, doubles, sums, state, blockWords}
-use Rattle.chacha20_lanes.specs.Lanes.{laneFrom, lane, putFrom, putLane, each}
+use Rattle.lanes.specs.Lanes.{laneFrom, lane, putLane, each}
+use Rattle.lanes.proofs.LaneLaws.{length-lane, length-each, each-lane}
 use Rattle.chacha20_lanes.specs.Firsts.{first, firsts, states, doubleEach, doublesEach}
-use Rattle.chacha20_lanes.proofs.LaneLaws.{length-lane, length-each, each-lane, put-more}
-
-length-of : (k : ℕ) (s : List ℕ) (n : ℕ) → length (lane k s n) ≡ n
-unfolding lane
-length-of k s n = length-lane k s 0 n
-
--- a lane that is read, word after word
-lane-snoc : (k : ℕ) (s : List ℕ) (j n : ℕ) → laneFrom k s j (suc n) ≡ laneFrom k s j n ++ (getD s (k + 4 * (j + n)) 0 ∷ [])
-unfolding laneFrom
-lane-snoc k s j zero = ap (λ (p : ℕ). getD s (k + 4 * p) 0 ∷ []) (sym (add-zero j))
-lane-snoc k s j (suc n) =
-    let q : suc j + n ≡ j + suc n = omega arith in
-    ap (λ (l : List ℕ). getD s (k + 4 * j) 0 ∷ l)
-    (lane-snoc k s (suc j) n ∙ ap (λ (p : ℕ). laneFrom k s (suc j) n ++ (getD s (k + 4 * p) 0 ∷ [])) q)
-
-pub get-none : (s : List ℕ) (k : ℕ) → [] ≡ lane k s 0
-unfolding lane laneFrom
-get-none s k = refl
-
-pub get-turn : (x s : List ℕ) (k j : ℕ) → j < length x → take j x ≡ lane k s j → take (j + 1) (set x j (getD s (k + 4 * j) 0)) ≡ lane k s (j + 1)
-unfolding lane
-get-turn x s k j l e =
-    let z : 0 + j ≡ j = omega arith in
-    ap (λ (p : ℕ). take p (set x j (getD s (k + 4 * j) 0))) (add-one j)
-    ∙ take-suc-set x j (getD s (k + 4 * j) 0) l
-    ∙ ap (λ (y : List ℕ). y ++ (getD s (k + 4 * j) 0 ∷ [])) e
-    ∙ ap (λ (p : ℕ). laneFrom k s 0 j ++ (getD s (k + 4 * p) 0 ∷ [])) (sym z)
-    ∙ sym (lane-snoc k s 0 j)
-    ∙ ap (laneFrom k s 0) (sym (add-one j))
-
-pub get-done : (x s : List ℕ) (k j : ℕ) → j ≤ 16 → 16 ≤ j → length x ≡ 16 → take j x ≡ lane k s j → x ≡ lane k s 16
-get-done x s k j a b l e =
-    let q : j ≡ 16 = omega arith in
-    sym (take-all j x (omega arith)) ∙ e ∙ ap (lane k s) q
-
--- a lane that is written, word after word
-pub put-none : (s : List ℕ) (k : ℕ) → s ≡ putLane s k []
-unfolding putLane putFrom
-put-none s k = refl
-
-pub put-turn : (s s₀ x : List ℕ) (k j : ℕ) → j < length x → s ≡ putLane s₀ k (take j x) → set s (k + 4 * j) (getD x j 0) ≡ putLane s₀ k (take (j + 1) x)
-put-turn s s₀ x k j l e =
-    ap (λ (y : List ℕ). set y (k + 4 * j) (getD x j 0)) e
-    ∙ sym (put-more s₀ k (take j x) (getD x j 0) j (length-take-le j x (omega arith)))
-    ∙ ap (putLane s₀ k) (sym (take-suc x j 0 l) ∙ ap (λ (p : ℕ). take p x) (sym (add-one j)))
-
-pub put-done : (s s₀ x : List ℕ) (k j : ℕ) → 16 ≤ j → length x ≡ 16 → s ≡ putLane s₀ k (take j x) → s ≡ putLane s₀ k x
-put-done s s₀ x k j a l e = e ∙ ap (putLane s₀ k) (take-all j x (omega arith))
 
 -- the states before the rounds
 pub states-none : (key cs ns s : List ℕ) → s ≡ states key cs ns 0 s
@@ -122,7 +73,7 @@ module _ (s : List ℕ) (l : length s ≡ 64) (i : ℕ) (b : i < 4) where
   unfolding doubleEach
   double-lane =
       each-lane 16 (λ (j : ℕ) (x : List ℕ). double x) s (omega arith)
-      (λ j. length-double (lane j s 16) ∙ length-of j s 16) 4 i b (omega arith)
+      (λ j. length-double (lane j s 16) ∙ length-lane j s 16) 4 i b (omega arith)
 
 length-doubles : (s : List ℕ) (n : ℕ) → length (doublesEach s n) ≡ length s
 unfolding doublesEach doubleEach

@@ -8,7 +8,7 @@ use Prim.Native.Nat.{ℕ, zero, suc}
 use mathlib.Core.List.{List, [], _∷_}
 use lib.ListN.{getD}
 use Rattle.chacha20.specs.ChaCha20.{double, state, blockWords}
-use Rattle.chacha20_lanes.specs.Lanes.{each}
+use Rattle.lanes.specs.Lanes.{each}
 
 unfoldable pub first : List ℕ → ℕ → ℕ → ℕ
 first key c n = getD (blockWords key c (0 ∷ 0 ∷ n ∷ [])) 0 0

@@ -4,7 +4,7 @@ ghost use mathlib.Core.Path.{_≡_};
 ghost use Prim.Native.Nat.{_+_, _*_, _≤_, _<_};
 ghost use lib.ListN.{length, replicate};
 ghost use Rattle.chacha20.specs.ChaCha20 as C;
-ghost use Rattle.chacha20_lanes.specs.Lanes.{lane, putLane};
+ghost use Rattle.lanes.specs.Lanes.{lane, putLane};
 ghost use Rattle.chacha20_lanes.specs.Firsts as F;
 
 // The sixteen words of lane k.

@@ -7,7 +7,7 @@
 --   rungs-other, rungs-refused, rungs-passed   the three ways out of these rungs
 --   first-swap, first-swap-last                tests of other buffers in front of the record's
 --   change-refused .. prove-refused            each call gives the code of its card or message
-use Prim.Native.Nat.{ℕ, zero, suc, _≤_}
+use Prim.Native.Nat.{ℕ, _≤_}
 use native.Mathlib.Omega.{arith}
 use mathlib.Core.Path.{_≡_, refl, sym, ap, _∙_}
 use mathlib.Core.List.{List, [], _∷_}
@@ -19,7 +19,7 @@ use Rattle.scheme.specs.Ladder.{first, ifZero}
 use Rattle.scheme.specs.Records.{readCard, cardFits, headFits, Message, readMessage, messageFits}
 use Rattle.scheme.specs.Primitives.{Primitives}
 use Rattle.scheme.specs.Calls.{Edit, changeCode, drawCode, judgeFault, proveCode}
-use Rattle.scheme.proofs.LadderLaws.{rung}
+use Rattle.scheme.proofs.LadderLaws.{rung, kept}
 use Rattle.scheme.proofs.LimitLaws.{Limits, card-limits, Shape, message-limits}
 use Rattle.records.specs.declared.Card as DC
 use Rattle.records.specs.declared.Message as DM
@@ -134,11 +134,7 @@ module _ (a : Bool) (code rest : ℕ) {whole : ℕ} (e : whole ≡ cond a (ifZer
   rungs-other p = rw p at (sym e)
 
   pub rungs-refused : (n : ℕ) → a ≡ true → n ≡ code → (n ≡ 0 → ⊥) → n ≡ whole
-  rungs-refused n p q h = own code refl ∙ sym (rw p at e)
-    where
-      own : (m : ℕ) → code ≡ m → n ≡ ifZero code rest code
-      own zero z = absurd (h (q ∙ z))
-      own (suc m) z = q ∙ rw z
+  rungs-refused n p q h = q ∙ kept code rest code n q h ∙ sym (rw p at e)
 
   pub rungs-passed : a ≡ true → code ≡ 0 → whole ≡ rest
   rungs-passed p z = e ∙ rw (p, z)

@@ -17,8 +17,8 @@ use Rattle.octets.proofs.PartLaws.{put-put, take-put}
 use Rattle.sha256.specs.Sha256.{chain, padding, digest, hashed, sha256, H0}
 use Rattle.sha256.specs.Stream.{Stream, taken}
 use Rattle.sha256.proofs.StreamLaws.{chain-done, taken-taken}
-use Rattle.sha256_lanes.specs.Lanes.{lane, putLane}
-use Rattle.sha256_lanes.proofs.LaneLaws.{lanes-four}
+use Rattle.lanes.specs.Lanes.{lane, putLane}
+use Rattle.lanes.proofs.LaneLaws.{lanes-four}
 use Rattle.sha256_four.specs.Blocks.{after}
 
 length-H0 : length H0 ≡ 8

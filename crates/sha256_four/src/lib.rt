@@ -5,7 +5,7 @@ ghost use mathlib.Core.List.{_++_};
 ghost use Prim.Native.Nat.{_+_, _-_, _^_, _≤_, _<_};
 ghost use lib.ListN.{length, take, drop};
 ghost use Rattle.sha256.specs.Sha256 as S;
-ghost use Rattle.sha256_lanes.specs.Lanes.{lane};
+ghost use Rattle.lanes.specs.Lanes.{lane};
 ghost use Rattle.sha256_four.specs.Blocks.{after};
 
 // The hashes of four messages.

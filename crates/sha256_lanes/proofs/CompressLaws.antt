@@ -14,8 +14,9 @@ use borrow.Author.Tests.{le-ltb}
 use lib.ListN.{length, getD, take, drop, length-append, length-set, length-drop, List·getD-append}
 use lib.Seq.{drop-append-le, drop-drop, getD-take, getD-drop, getD-set-same, getD-set-other}
 use Rattle.sha256.specs.Sha256.{_⊞_, K, round, rounds, schedule, next, word, added, compressed}
-use Rattle.sha256_lanes.specs.Lanes.{laneFrom, lane, putLane, roundWords, runs, ran, nextWord, slid, slides, moved, sums}
-use Rattle.sha256_lanes.proofs.LaneLaws.{length-lane, length-four, lanes-four, length-each, each-lane}
+use Rattle.lanes.specs.Lanes.{laneFrom, lane, putLane}
+use Rattle.sha256_lanes.specs.Rounds.{roundWords, runs, ran, nextWord, slid, slides, moved, sums}
+use Rattle.lanes.proofs.LaneLaws.{length-lane, length-four, lanes-four, length-each, each-lane}
 use Rattle.sha256_lanes.proofs.LoopLaws.{length-schedule}
 
 prefix : (m : List ℕ) (n d i : ℕ) → i < n → getD (schedule m (n + d)) i 0 ≡ getD (schedule m n) i 0
@@ -137,7 +138,11 @@ unfolding rounds
 first m h w s k a l e p =
     record {
       window-is = e;
-      state-is = ap (λ (x : List ℕ). lane k x 8) p ∙ ran-lane 0 w h k l a ∙ ap (λ (x : List ℕ). runs (roundWords 0) x (lane k h 8) 16) e ∙ runs-window m (lane k h 8) 0 16 (omega arith) (omega arith);
+      state-is =
+          ap (λ (x : List ℕ). lane k x 8) p
+          ∙ ran-lane 0 w h k l a
+          ∙ ap (λ (x : List ℕ). runs (roundWords 0) x (lane k h 8) 16) e
+          ∙ runs-window m (lane k h 8) 0 16 (omega arith) (omega arith);
     }
 
 turn : (m h w s w′ s′ : List ℕ) (k t : ℕ) → k < 4 → t < 48 → t % 16 ≡ 0 → length w ≡ 64 → length s ≡ 32 → w′ ≡ moved 4 w → s′ ≡ ran (t + 16) w′ 4 s

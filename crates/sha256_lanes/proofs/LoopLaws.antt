@@ -8,37 +8,11 @@ use mathlib.Core.Bool.{cond}
 use lib.Dec.{ltb}
 use borrow.Author.Tests.{lt-ltb}
 use lib.ListN.{length, getD, set, take, drop, length-append, length-drop}
-use lib.Seq.{take-suc, take-suc-set, take-all, getD-drop, length-take-le}
+use lib.Seq.{take-suc, take-suc-set, take-all, getD-drop}
 use Rattle.sha256.specs.Sha256.{_⊞_, K, schedule, word, next}
-use Rattle.sha256_lanes.specs.Lanes.{laneFrom, lane, putFrom, putLane, each, roundWords, runs, ran, slides, moved, sums}
-use Rattle.sha256_lanes.proofs.LaneLaws.{lane-more, put-more}
-
--- a lane that is read
-pub get-none : (s : List ℕ) (k : ℕ) → [] ≡ lane k s 0
-unfolding lane laneFrom
-get-none s k = refl
-
-pub get-turn : (s x : List ℕ) (k j v : ℕ) → j < length x → take j x ≡ lane k s j → v ≡ getD s (k + 4 * j) 0 → take (j + 1) (set x j v) ≡ lane k s (j + 1)
-get-turn s x k j v h e f = rw (add-one, take-suc-set x j v h, e, f, lane-more k s j)
-
-pub get-done : (s x : List ℕ) (k j n : ℕ) → j ≤ n → n ≤ j → length x ≡ n → take j x ≡ lane k s j → x ≡ lane k s n
-get-done s x k j n a b l e =
-    let q : j ≡ n = omega arith in
-    sym (take-all j x (omega arith)) ∙ e ∙ ap (lane k s) q
-
--- a lane that is written
-pub put-none : (s xs : List ℕ) (k : ℕ) → s ≡ putLane s k (take 0 xs)
-unfolding putLane putFrom
-put-none s xs k = refl
-
-pub put-turn : (s s₀ xs : List ℕ) (k j : ℕ) → j < length xs → s ≡ putLane s₀ k (take j xs) → set s (k + 4 * j) (getD xs j 0) ≡ putLane s₀ k (take (j + 1) xs)
-put-turn s s₀ xs k j h e =
-    ap (λ (l : List ℕ). set l (k + 4 * j) (getD xs j 0)) e
-    ∙ sym (put-more s₀ k (take j xs) (getD xs j 0) j (length-take-le j xs (omega arith)))
-    ∙ ap (putLane s₀ k) (sym (take-suc xs j 0 h) ∙ ap (λ (n : ℕ). take n xs) (sym (add-one j)))
-
-pub put-done : (s s₀ xs : List ℕ) (k j : ℕ) → length xs ≤ j → s ≡ putLane s₀ k (take j xs) → s ≡ putLane s₀ k xs
-put-done s s₀ xs k j h e = e ∙ ap (putLane s₀ k) (take-all j xs h)
+use Rattle.lanes.specs.Lanes.{lane, putFrom, putLane, each}
+use Rattle.lanes.proofs.LaneLaws.{put-more}
+use Rattle.sha256_lanes.specs.Rounds.{roundWords, runs, ran, slides, moved, sums}
 
 -- the words of a block
 pub length-schedule : (m : List ℕ) (t : ℕ) → length (schedule m t) ≡ t
@@ -93,7 +67,8 @@ pub ran-none : (t : ℕ) (w s : List ℕ) → s ≡ ran t w 0 s
 unfolding ran each
 ran-none t w s = refl
 
-pub ran-turn : (t k : ℕ) (w s s₀ q x z y s′ : List ℕ) → s ≡ ran t w k s₀ → q ≡ roundWords t → x ≡ lane k s 8 → z ≡ lane k w 16 → y ≡ runs q z x 16 → s′ ≡ putLane s k y → s′ ≡ ran t w (k + 1) s₀
+pub ran-turn : (t k : ℕ) (w s s₀ q x z y s′ : List ℕ) → s ≡ ran t w k s₀ → q ≡ roundWords t → x ≡ lane k s 8 → z ≡ lane k w 16 → y ≡ runs q z x 16
+    → s′ ≡ putLane s k y → s′ ≡ ran t w (k + 1) s₀
 unfolding ran each
 ran-turn t k w s s₀ q x z y s′ a b d e f g = g ∙ rw (f, b, d, e, a, add-one)
 

@@ -1,12 +1,12 @@
 // The compression of SHA-256 for four blocks at once, in four lanes: word j of lane k stands at k + 4 * j.
-// Every function equals a definition of specs/Lanes or of sha256. Nothing is assumed.
+// Every function equals a definition of specs/Rounds, of lanes or of sha256. Nothing is assumed.
 // The loops over lanes have straight-line bodies, so that the compiler turns the four lanes into vectors.
 ghost use mathlib.Core.Path.{_≡_};
 ghost use Prim.Native.Nat.{_≤_, _<_};
 ghost use lib.ListN.{length};
 ghost use Rattle.sha256.specs.Sha256 as S;
-ghost use Rattle.sha256_lanes.specs.Lanes as N;
-ghost use Rattle.sha256_lanes.specs.Lanes.{lane, putLane};
+ghost use Rattle.sha256_lanes.specs.Rounds as N;
+ghost use Rattle.lanes.specs.Lanes.{lane, putLane};
 use sha256::Work;
 
 // The eight words of lane k.

@@ -6,13 +6,15 @@ use Prim.Native.Nat.{_-_, _≤_}
 use lib.ListN.{length-take, length-drop}
 use Rattle.sha256.specs.Sha256.{chain}
 use Rattle.sha256.proofs.StreamLaws.{chain-none, chain-turn}
-use Rattle.sha256_lanes.specs.Lanes.{lane}
+use Rattle.lanes.specs.Lanes.{lane}
 use Rattle.sha256_four.proofs.FourLaws.{done}
 use Rattle.sha256_four.proofs.blocks4.Statement.{statement}
 use Rattle.sha256_four.proofs.blocks4.Tie as tie
 
 abbrev Inv-loop : tie.InvT-loop
-Inv-loop p0 p1 p2 p3 n keys v₀ k₀ v k = (k ≤ n) × (lane 0 v 8 ≡ chain k (lane 0 v₀ 8) p0) × (lane 1 v 8 ≡ chain k (lane 1 v₀ 8) p1) × (lane 2 v 8 ≡ chain k (lane 2 v₀ 8) p2) × (lane 3 v 8 ≡ chain k (lane 3 v₀ 8) p3)
+Inv-loop p0 p1 p2 p3 n keys v₀ k₀ v k =
+    (k ≤ n) × (lane 0 v 8 ≡ chain k (lane 0 v₀ 8) p0) × (lane 1 v 8 ≡ chain k (lane 1 v₀ 8) p1) × (lane 2 v 8 ≡ chain k (lane 2 v₀ 8) p2)
+    × (lane 3 v 8 ≡ chain k (lane 3 v₀ 8) p3)
 
 abbrev μ-loop : tie.MeasureT-loop
 μ-loop p0 p1 p2 p3 n keys v₀ k₀ v k = n - k

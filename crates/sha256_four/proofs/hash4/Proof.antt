@@ -46,11 +46,17 @@ digest-of-requires-4 c κs = search needs
 
 returns : tie.Need-returns
 returns c =
-    let p = c .before .before .before .before .before .before .before .before .before .before .before .before .before .before .before .before .before .before .pre in (
-      hash-is _ _ _ _ _ _ _ refl (c .before .before .before .before .before .before .before .before .before .before .before .pad .ensures .1) (c .before .before .before .before .before .before .before .before .before .before .before .before .before .initial4 .ensures .0) (c .before .before .before .before .before .before .before .before .before .before .before .before .blocks4 .ensures .0) (c .before .before .before .before .before .before .before .before .tails4 .ensures .0) (c .before .before .before .before .before .before .digest-of .ensures),
-      hash-is _ _ _ _ _ _ _ (p .1) (c .before .before .before .before .before .before .before .before .before .before .before .pad .ensures .1) (c .before .before .before .before .before .before .before .before .before .before .before .before .before .initial4 .ensures .1) (c .before .before .before .before .before .before .before .before .before .before .before .before .blocks4 .ensures .1) (c .before .before .before .before .before .before .before .before .tails4 .ensures .1) (c .before .before .before .before .digest-of2 .ensures),
-      hash-is _ _ _ _ _ _ _ (p .2) (c .before .before .before .before .before .before .before .before .before .before .before .pad .ensures .1) (c .before .before .before .before .before .before .before .before .before .before .before .before .before .initial4 .ensures .2) (c .before .before .before .before .before .before .before .before .before .before .before .before .blocks4 .ensures .2) (c .before .before .before .before .before .before .before .before .tails4 .ensures .2) (c .before .before .digest-of3 .ensures),
-      hash-is _ _ _ _ _ _ _ (p .3) (c .before .before .before .before .before .before .before .before .before .before .before .pad .ensures .1) (c .before .before .before .before .before .before .before .before .before .before .before .before .before .initial4 .ensures .3) (c .before .before .before .before .before .before .before .before .before .before .before .before .blocks4 .ensures .3) (c .before .before .before .before .before .before .before .before .tails4 .ensures .3) (c .digest-of4 .ensures),
+    let q = c .before .before .before .before .before .before .before .before .before .before in
+    let tails4 = c .before .before .before .before .before .before .before .before .tails4 in
+    let pad = q .before .pad in
+    let blocks4 = q .before .before .blocks4 in
+    let initial4 = q .before .before .before .initial4 in
+    let p = q .before .before .before .before .before .before .before .before .pre in (
+      hash-is _ _ _ _ _ _ _ refl (pad .ensures .1) (initial4 .ensures .0) (blocks4 .ensures .0) (tails4 .ensures .0)
+          (c .before .before .before .before .before .before .digest-of .ensures),
+      hash-is _ _ _ _ _ _ _ (p .1) (pad .ensures .1) (initial4 .ensures .1) (blocks4 .ensures .1) (tails4 .ensures .1) (c .before .before .before .before .digest-of2 .ensures),
+      hash-is _ _ _ _ _ _ _ (p .2) (pad .ensures .1) (initial4 .ensures .2) (blocks4 .ensures .2) (tails4 .ensures .2) (c .before .before .digest-of3 .ensures),
+      hash-is _ _ _ _ _ _ _ (p .3) (pad .ensures .1) (initial4 .ensures .3) (blocks4 .ensures .3) (tails4 .ensures .3) (c .digest-of4 .ensures),
     )
 
 pub hash4-spec : {M : Type 1} → statement M

@@ -21,7 +21,10 @@ put-lane8-requires-4 : tie.Need-put-lane8-requires-4
 put-lane8-requires-4 c κs = search needs
 
 returns : tie.Need-returns
-returns c = initial-is _ _ _ _ _ _ (c .before .before .before .before .before .before .before .before .initial .ensures) refl (c .before .before .before .before .before .before .put-lane8 .ensures) (c .before .before .before .before .put-lane82 .ensures) (c .before .before .put-lane83 .ensures) (c .put-lane84 .ensures)
+returns c =
+    initial-is _ _ _ _ _ _ (c .before .before .before .before .before .before .before .before .initial .ensures) refl
+    (c .before .before .before .before .before .before .put-lane8 .ensures) (c .before .before .before .before .put-lane82 .ensures)
+    (c .before .before .put-lane83 .ensures) (c .put-lane84 .ensures)
 
 pub initial4-spec : {M : Type 1} → statement M
 initial4-spec =

@@ -31,8 +31,9 @@ copy-requires-2 c κs = search needs
 
 returns : tie.Need-returns
 returns c =
-    let p = c .before .before .before .before .before .before .before .before .before .pre in
-    tail-is _ _ _ (c .before .before .before .before .before .before .before .before .before .args .m .now) (c .before .before .before .before .before .before .before .before .before .args .pad .now) (c .before .before .before .before .before .before .before .before .before .args .from) refl (p .0) (p .1) (c .before .before .before .before .copy .ensures) (c .before .copy2 .ensures)
+    let s = c .before .before .before .before .before .before .before .before .before in
+    let p = s .pre in
+    tail-is _ _ _ (s .args .m .now) (s .args .pad .now) (s .args .from) refl (p .0) (p .1) (c .before .before .before .before .copy .ensures) (c .before .copy2 .ensures)
 
 pub tail-spec : {M : Type 1} → statement M
 tail-spec =

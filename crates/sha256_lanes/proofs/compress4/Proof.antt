@@ -31,7 +31,9 @@ loop-holds : tie.Need-loop-holds Inv-loop μ-loop
 loop-holds c = (
   search needs,
   search needs,
-  first4 _ _ _ _ _ _ _ _ _ _ _ (search needs) refl (c .before .before .before .before .before .before .before .before .load .ensures) (c .before .before .before .before .before .before .load2 .ensures) (c .before .before .before .before .load3 .ensures) (c .before .before .load4 .ensures) (c .rounds4 .ensures),
+  first4 _ _ _ _ _ _ _ _ _ _ _ (search needs) refl (c .before .before .before .before .before .before .before .before .load .ensures)
+      (c .before .before .before .before .before .before .load2 .ensures) (c .before .before .before .before .load3 .ensures)
+      (c .before .before .load4 .ensures) (c .rounds4 .ensures),
 )
 
 next4-requires : tie.Need-next4-requires Inv-loop μ-loop
@@ -51,8 +53,9 @@ loop-less c = search needs
 
 loop-again : tie.Need-loop-again Inv-loop μ-loop
 loop-again c =
-    let l = c .before .before .before .before .before .loop in
-    (search needs, search needs, turn4 _ _ _ _ _ _ _ _ _ (l .t) (c .before .before .before .before .loop-test .taken) (l .inv .1) (c .before .before .next4 .ensures) (c .rounds42 .ensures) (l .inv .2))
+    let t = c .before .before .before .before in
+    let l = t .before .loop in
+    (search needs, search needs, turn4 _ _ _ _ _ _ _ _ _ (l .t) (t .loop-test .taken) (l .inv .1) (c .before .before .next4 .ensures) (c .rounds42 .ensures) (l .inv .2))
 
 sums-requires : tie.Need-sums-requires Inv-loop μ-loop
 sums-requires c κs = search needs

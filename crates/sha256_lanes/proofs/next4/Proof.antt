@@ -2,7 +2,7 @@
 use borrow.Author.Needs.{needs}
 use mathlib.Core.Path.{_≡_}
 use Prim.Native.Nat.{_-_, _≤_}
-use Rattle.sha256_lanes.specs.Lanes as N
+use Rattle.sha256_lanes.specs.Rounds as N
 use Rattle.sha256_lanes.proofs.LoopLaws.{moved-none, moved-turn, moved-done}
 use Rattle.sha256_lanes.proofs.next4.Statement.{statement}
 use Rattle.sha256_lanes.proofs.next4.Tie as tie

@@ -2,7 +2,7 @@
 use borrow.Author.Needs.{needs}
 use mathlib.Core.Path.{_≡_}
 use Prim.Native.Nat.{_-_, _≤_}
-use Rattle.sha256_lanes.specs.Lanes as N
+use Rattle.sha256_lanes.specs.Rounds as N
 use Rattle.sha256_lanes.proofs.LoopLaws.{ran-none, ran-turn, ran-done}
 use Rattle.sha256_lanes.proofs.rounds4.Statement.{statement}
 use Rattle.sha256_lanes.proofs.rounds4.Tie as tie
@@ -39,8 +39,12 @@ loop-less c = search needs
 
 loop-again : tie.Need-loop-again Inv-loop μ-loop
 loop-again c =
-    let l = c .before .before .before .before .before .before .before .loop in
-    (search needs, ran-turn _ (l .k) _ _ _ _ _ _ _ _ (l .inv .1) (c .before .before .before .before .before .before .before .before .round-words .ensures) (c .before .before .before .before .lane8 .ensures) (c .before .before .before .lane16 .ensures) (c .before .before .rounds16 .ensures) (c .put-lane8 .ensures))
+    let l = c .before .before .before .before .before .before .before .loop in (
+      search needs,
+      ran-turn _ (l .k) _ _ _ _ _ _ _ _ (l .inv .1) (c .before .before .before .before .before .before .before .before .round-words .ensures)
+          (c .before .before .before .before .lane8 .ensures) (c .before .before .before .lane16 .ensures) (c .before .before .rounds16 .ensures)
+          (c .put-lane8 .ensures),
+    )
 
 returns : tie.Need-returns Inv-loop μ-loop
 returns c =

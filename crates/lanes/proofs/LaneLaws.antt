@@ -4,15 +4,18 @@
 --   lanes-four, length-four                  the lanes after words were put in each of the four
 --   each-lane                                lane i of a list whose lanes were each changed
 --   lane-more, put-more                      one word more of a lane, and to it
+--   get-none, get-turn, get-done             the loop that reads a lane
+--   put-none, put-turn, put-done             the loop that writes one
 use mathlib.Core.Path.{_≡_, refl, sym, ap, _∙_}
 use mathlib.Core.List.{List, [], _∷_, _++_}
 use Prim.Native.Nat.{ℕ, zero, suc, _+_, _*_, _≤_, _<_}
+use native.Mathlib.Numerals.{add-one}
 use native.Mathlib.Nat.{eq-or-lt-of-le, zero-add, add-zero}
 use mathlib.Core.Logic.{_⊎_, inl, inr}
 use native.Mathlib.Omega.{arith}
-use lib.ListN.{length, getD, set, length-set}
-use lib.Seq.{getD-set-same, getD-set-other}
-use Rattle.sha256_lanes.specs.Lanes.{laneFrom, lane, putFrom, putLane, each}
+use lib.ListN.{length, getD, set, take, length-set}
+use lib.Seq.{getD-set-same, getD-set-other, take-suc, take-suc-set, take-all, length-take-le}
+use Rattle.lanes.specs.Lanes.{laneFrom, lane, putFrom, putLane, each}
 
 length-from : (k : ℕ) (s : List ℕ) (j n : ℕ) → length (laneFrom k s j n) ≡ n
 unfolding laneFrom
@@ -55,8 +58,7 @@ put-apart : (s : List ℕ) (k i j : ℕ) (xs : List ℕ) (n : ℕ) → k < 4 →
 unfolding laneFrom
 put-apart s k i j xs zero a b d = refl
 put-apart s k i j xs (suc n) a b d =
-    let e : getD (putFrom s k 0 xs) (i + 4 * j) 0 ≡ getD s (i + 4 * j) 0 =
-    put-other s k 0 xs (i + 4 * j) (λ p h e. d (omega arith)) in
+    let e : getD (putFrom s k 0 xs) (i + 4 * j) 0 ≡ getD s (i + 4 * j) 0 = put-other s k 0 xs (i + 4 * j) (λ p h e. d (omega arith)) in
     let f : laneFrom i (putFrom s k 0 xs) (suc j) n ≡ laneFrom i s (suc j) n = put-apart s k i (suc j) xs n a b d in
     cc
 
@@ -158,3 +160,30 @@ from-more k s j (suc n) =
 pub lane-more : (k : ℕ) (s : List ℕ) (n : ℕ) → lane k s (suc n) ≡ lane k s n ++ (getD s (k + 4 * n) 0 ∷ [])
 unfolding lane
 lane-more k s n = from-more k s 0 n ∙ ap (λ (p : ℕ). laneFrom k s 0 n ++ (getD s (k + 4 * p) 0 ∷ [])) (zero-add n)
+
+-- a lane that is read
+pub get-none : (s : List ℕ) (k : ℕ) → [] ≡ lane k s 0
+unfolding lane laneFrom
+get-none s k = refl
+
+pub get-turn : (s x : List ℕ) (k j v : ℕ) → j < length x → take j x ≡ lane k s j → v ≡ getD s (k + 4 * j) 0 → take (j + 1) (set x j v) ≡ lane k s (j + 1)
+get-turn s x k j v h e f = rw (add-one, take-suc-set x j v h, e, f, lane-more k s j)
+
+pub get-done : (s x : List ℕ) (k j n : ℕ) → j ≤ n → n ≤ j → length x ≡ n → take j x ≡ lane k s j → x ≡ lane k s n
+get-done s x k j n a b l e =
+    let q : j ≡ n = omega arith in
+    sym (take-all j x (omega arith)) ∙ e ∙ ap (lane k s) q
+
+-- a lane that is written
+pub put-none : (s xs : List ℕ) (k : ℕ) → s ≡ putLane s k (take 0 xs)
+unfolding putLane putFrom
+put-none s xs k = refl
+
+pub put-turn : (s s₀ xs : List ℕ) (k j : ℕ) → j < length xs → s ≡ putLane s₀ k (take j xs) → set s (k + 4 * j) (getD xs j 0) ≡ putLane s₀ k (take (j + 1) xs)
+put-turn s s₀ xs k j h e =
+    ap (λ (l : List ℕ). set l (k + 4 * j) (getD xs j 0)) e
+    ∙ sym (put-more s₀ k (take j xs) (getD xs j 0) j (length-take-le j xs (omega arith)))
+    ∙ ap (putLane s₀ k) (sym (take-suc xs j 0 h) ∙ ap (λ (n : ℕ). take n xs) (sym (add-one j)))
+
+pub put-done : (s s₀ xs : List ℕ) (k j : ℕ) → length xs ≤ j → s ≡ putLane s₀ k (take j xs) → s ≡ putLane s₀ k xs
+put-done s s₀ xs k j h e = e ∙ ap (putLane s₀ k) (take-all j xs h)

@@ -1,34 +1,14 @@
--- Four computations of SHA-256 side by side, in lanes: word j of lane k of a list stands at k + 4 * j. Assumes nothing.
---   lane k s n, putLane s k xs      the first n words of lane k; the list with the words xs there
---   each n f k s                    the first k lanes of n words, each changed by f
+-- Four computations of SHA-256 side by side, in lanes. Assumes nothing.
 --   roundWords t, runs q w v n      sixteen round words from t on; n rounds with the round words q and the schedule words w
 --   ran t w k s                     sixteen rounds, from t on, of each of the first k lanes of s
 --   slid x, slides n x              sixteen words of a schedule, one word on; n words on
 --   moved k w                       each of the first k lanes of w sixteen words on
 --   sums n s h                      the first n words of h added to those of s
-use Prim.Native.Nat.{ℕ, zero, suc, _+_, _*_}
+use Prim.Native.Nat.{ℕ, zero, suc}
 use mathlib.Core.List.{List, [], _∷_, _++_}
 use lib.ListN.{getD, set, take, drop}
 use Rattle.sha256.specs.Sha256.{_⊞_, σ0, σ1, K, round}
-
--- n words of lane k from word j on
-unfoldable pub laneFrom : ℕ → List ℕ → ℕ → ℕ → List ℕ
-laneFrom k s j zero = []
-laneFrom k s j (suc n) = getD s (k + 4 * j) 0 ∷ laneFrom k s (suc j) n
-
-unfoldable pub lane : ℕ → List ℕ → ℕ → List ℕ
-lane k s n = laneFrom k s 0 n
-
-unfoldable pub putFrom : List ℕ → ℕ → ℕ → List ℕ → List ℕ
-putFrom s k j [] = s
-putFrom s k j (x ∷ xs) = putFrom (set s (k + 4 * j) x) k (suc j) xs
-
-unfoldable pub putLane : List ℕ → ℕ → List ℕ → List ℕ
-putLane s k xs = putFrom s k 0 xs
-
-unfoldable pub each : ℕ → (ℕ → List ℕ → List ℕ) → ℕ → List ℕ → List ℕ
-each n f zero s = s
-each n f (suc k) s = putLane (each n f k s) k (f k (lane k (each n f k s) n))
+use Rattle.lanes.specs.Lanes.{lane, each}
 
 -- FIPS 180-4, 6.2.2, 3
 unfoldable pub roundWords : ℕ → List ℕ
