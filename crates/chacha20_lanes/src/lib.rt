@@ -1,8 +1,8 @@
 // The first words of four ChaCha20 blocks under one key, computed in lanes: word j of lane k stands at 4 * j + k of one array of 64 words,
 // so that a loop over the lanes becomes code on four words at once. Every function equals a definition of specs/. Nothing is assumed.
 ghost use mathlib.Core.Path.{_≡_};
-ghost use Prim.Native.Nat.{_+_, _*_, _≤_, _<_};
-ghost use lib.ListN.{length, replicate};
+ghost use Prim.Native.Nat.{_+_, _*_, _<_};
+ghost use lib.ListN.{replicate};
 ghost use Rattle.chacha20.specs.ChaCha20 as C;
 ghost use Rattle.lanes.specs.Lanes.{lane, putLane};
 ghost use Rattle.chacha20_lanes.specs.Firsts as F;

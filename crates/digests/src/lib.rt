@@ -1,5 +1,5 @@
 // The digest of all positions: what set-up seals as a token, and what the host answers. Blocks are hashed four at once.
-// Every function equals a definition of the scheme's Tokens at the standard primitives. Nothing is assumed.
+// Every function equals a definition of specs/ or of the scheme's Tokens at the standard primitives. Nothing is assumed.
 ghost use mathlib.Core.Path.{_≡_};
 ghost use Prim.Native.Nat.{_+_, _-_, _*_, _^_, _≤_, _<_};
 ghost use lib.ListN.{length};
