@@ -435,6 +435,7 @@ int main(void)
 {
     const char *place = getenv("TMPDIR");
     char folder[512];
+    /* The six X are what mkdtemp puts other letters for. */
     snprintf(folder, sizeof folder, "%s/legbaro-week-XXXXXX", place ? place : P_tmpdir);
     if (!mkdtemp(folder) || chdir(folder) != 0 || mkdir("owner", 0700) != 0 || mkdir("host", 0700) != 0)
         stop("make", folder);

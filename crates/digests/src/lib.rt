@@ -72,9 +72,9 @@ fn with_four(x: [u8; 32], m0: &[u8], m1: &[u8], m2: &[u8], m3: &[u8]) -> [u8; 32
 }
 
 // A digest, and how many messages wait to be hashed into it.
-pub struct Sum {
-    pub x: [u8; 32],
-    pub fill: u64,
+struct Sum {
+    x: [u8; 32],
+    fill: u64,
 }
 
 // The sum with one more block: its message waits in the first free of four places, and when the fourth is taken all are hashed at once.

@@ -33,10 +33,6 @@ prefix m n (suc d) i h =
 unfoldable pub window : List ℕ → ℕ → List ℕ
 window m t = drop t (schedule m (t + 16))
 
-length-window : (m : List ℕ) (t : ℕ) → length (window m t) ≡ 16
-unfolding window
-length-window m t = omega (arith, length-drop t (schedule m (t + 16)), length-schedule m (t + 16))
-
 window-next : (m : List ℕ) (t : ℕ)
     → nextWord (getD (window m t) 14 0) (getD (window m t) 9 0) (getD (window m t) 1 0) (getD (window m t) 0 0) ≡ next (schedule m (t + 16)) (t + 16)
 unfolding window nextWord next
