@@ -5,26 +5,23 @@
 use Prim.Native.Nat.{ℕ, _+_, _-_, _≤_}
 use native.Mathlib.Omega.{arith}
 use mathlib.Core.Path.{_≡_, refl, sym, ap, ap₂, _∙_}
-use mathlib.Core.List.{List, [], _++_, append-nil, append-assoc}
-use lib.ListN.{length, take, drop, length-append, length-drop, drop-of-length-le, take-append-drop, replicate, length-replicate}
+use mathlib.Core.List.{List, _++_, append-assoc}
+use lib.ListN.{length, take, drop, length-append, length-drop, take-append-drop, replicate, length-replicate}
 use lib.Seq.{drop-drop, take-all, length-take-le}
 use Rattle.octets.specs.Octets.{be, part, put}
 use Rattle.octets.proofs.NumberLaws.{length-be}
-use Rattle.octets.proofs.PartLaws.{length-part, put-put}
+use Rattle.octets.proofs.PartLaws.{length-part, put-put, put-whole}
 
 -- three lists that fill a buffer, written one behind the other
 three : (a b c m : List ℕ) → length a + length b + length c ≡ length m → put (length a + length b) c (put (length a) b (put 0 a m)) ≡ a ++ b ++ c
-unfolding put
 three a b c m l =
     let start : (n : ℕ) → n ≡ 0 + n = λ n. omega arith in
     let first : put (length a) b (put 0 a m) ≡ put 0 (a ++ b) m = ap (λ (n : ℕ). put n b (put 0 a m)) (start (length a)) ∙ put-put 0 a b m (omega arith) in
     let ab : length (a ++ b) ≡ length a + length b = length-append a b in
-    let none : drop (length (a ++ b ++ c)) m ≡ [] = drop-of-length-le m {i = length (a ++ b ++ c)} (omega (arith, length-append (a ++ b) c, ab)) in
     ap (put (length a + length b) c) first
     ∙ ap (λ (n : ℕ). put n c (put 0 (a ++ b) m)) (sym ab ∙ start (length (a ++ b)))
     ∙ put-put 0 (a ++ b) c m (omega (arith, ab))
-    ∙ ap (λ (u : List ℕ). (a ++ b ++ c) ++ u) none
-    ∙ append-nil (a ++ b ++ c)
+    ∙ put-whole (a ++ b ++ c) m (length-append (a ++ b) c ∙ ap (λ (n : ℕ). n + length c) ab ∙ l)
 
 pub message-laid : (c m xs m₁ m₂ m₃ : List ℕ) (index at B : ℕ) → length c ≡ 32 → length m ≡ 36 + B → at + B ≤ length xs
     → m₁ ≡ put 0 c m → m₂ ≡ put 32 (be 4 index) m₁ → m₃ ≡ put 36 (take (at + B - at) (drop at xs)) m₂
