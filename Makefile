@@ -1,16 +1,22 @@
 # make week               one file's week on real files, told step by step: examples/week.c
-# make lib                the archive and its header in target/legbaro
+# make lib                the archive and its header in target/legbaro: code for plain x86-64, with AVX2 and with AVX-512, and a choice between them
+# make lib CPU=NAME       the archive with one code alone, in target/legbaro-NAME; NAME is x86-64, avx2 or avx512
+#                         CPU=NAME goes with week, install and compare too
 # make install PREFIX=    header, archive and pkg-config file below PREFIX, /usr/local where none is given
 # make test               the gate: proves every crate, tries the edits that must be refused, runs the programs and the C tests
 # make compare            the C tests alone: the library against the second implementation
-# make bench              times the library against the second implementation; the table of docs/PERFORMANCE.md
+# make chosen             prints which code the archive takes on this processor
+# make bench              times the library against the second implementation; the tables of docs/PERFORMANCE.md
+# make headline           times one great set-up, whole: 11,680 tokens of 512 positions over 4,096 blocks of 4,096 bytes
 # make prove              proves every crate that changed since it was last proved, and runs the programs
-.PHONY: week lib install test compare bench prove
+.PHONY: week lib install test compare chosen bench headline prove
 
 PREFIX ?= /usr/local
 CFLAGS ?= -O2
-LIB := target/legbaro
-OUT := target/c
+CPU ?=
+MODULE := target/module
+LIB := target/legbaro$(CPU:%=-%)
+OUT := target/c$(CPU:%=-%)
 COMPILE = $(CC) -std=c99 -pedantic -Wall -Wextra $(CFLAGS) -I$(LIB)
 LINK = -L$(LIB) -llegbaro
 SHARED := $(addprefix tests/,second.c book.c calls.c files.c buffers.c chance.c groups.c)
@@ -26,9 +32,11 @@ $(OUT)/week: examples/week.c $(LIB)/liblegbaro.a $(LIB)/legbaro.h
 lib: $(LIB)/liblegbaro.a $(LIB)/legbaro.h
 	@echo "$(LIB)/liblegbaro.a: $$(wc -c < $(LIB)/liblegbaro.a) bytes"
 
-$(LIB)/liblegbaro.a: crates.txt $(shell find crates -type f)
-	rt staticlib legbaro
-	install -D -m 644 target/staticlib/liblegbaro.a $@
+$(MODULE)/legbaro.ll: crates.txt $(shell find crates -type f) tools/module
+	tools/module $(MODULE)
+
+$(LIB)/liblegbaro.a: $(MODULE)/legbaro.ll tools/archive tools/choose.c tools/processors tools/wide
+	tools/archive $(MODULE) $@ $(CPU)
 
 $(LIB)/legbaro.h: include/legbaro.h
 	install -D -m 644 $< $@
@@ -48,15 +56,27 @@ compare: $(OUT)/tests
 $(OUT)/tests: $(wildcard tests/*.c tests/*.h) $(LIB)/liblegbaro.a $(LIB)/legbaro.h
 	@tools/needs cc libcrypto
 	@mkdir -p $(OUT)
-	$(COMPILE) $(filter %.c,$^) -o $@ $(LINK) -lcrypto
+	$(COMPILE) -pthread $(filter %.c,$^) -o $@ $(LINK) -lcrypto
+
+# These two know the codes of the archive by their own names, so they are for the archive that has them all.
+chosen: $(OUT)/chosen
+	@$(OUT)/chosen
+
+$(OUT)/chosen: tests/chosen/chosen.c $(LIB)/liblegbaro.a
+	@tools/needs cc
+	@mkdir -p $(OUT)
+	$(COMPILE) -fPIC -fno-plt -I$(MODULE) $< -o $@ $(LINK)
 
 bench: $(OUT)/bench
 	@$(OUT)/bench
 
-$(OUT)/bench: bench/bench.c $(SHARED) $(wildcard tests/*.h) $(LIB)/liblegbaro.a $(LIB)/legbaro.h
+headline: $(OUT)/bench
+	@$(OUT)/bench --headline
+
+$(OUT)/bench: $(wildcard bench/*.c bench/*.h) $(SHARED) $(wildcard tests/*.h) $(LIB)/liblegbaro.a $(LIB)/legbaro.h
 	@tools/needs cc libcrypto
 	@mkdir -p $(OUT)
-	$(COMPILE) -Itests $(filter %.c,$^) -o $@ $(LINK) -lcrypto
+	$(COMPILE) -Itests -I$(MODULE) $(filter %.c,$^) -o $@ $(LINK) -lcrypto
 
 prove:
 	rt check

@@ -1,31 +1,37 @@
 /*
- * Times set-up, update and proof against the second implementation over libcrypto, and prints tables that can be pasted into
- * docs/PERFORMANCE.md. What the two write is compared first.
+ * Times set-up, proof and update by each code of the archive and by the second implementation over libcrypto, and prints tables that can be
+ * pasted into docs/PERFORMANCE.md. What each code writes is compared with the second implementation first. A code that the processor can't
+ * run is left out.
  *
- * libcrypto uses the processor's SHA instructions where it has them. So the program runs itself once more, as a helper with these switched
- * off in libcrypto, and asks it for the third time of each row. In each row the three alternate, and the best of each counts.
+ * libcrypto uses the processor's SHA instructions where it has them; a helper shows what it does without them. In each row all alternate, and
+ * the best of each counts.
+ *
+ *   --headline   one great set-up in place of the tables, whole: as the archive chooses, by the plain code, and by the second implementation
  */
 #define _XOPEN_SOURCE 700
 #include "chance.h"
+#include "codes.h"
 #include "files.h"
 #include "groups.h"
+#include "helper.h"
 #include "second.h"
 
 #include <openssl/crypto.h>
 #include <stdio.h>
 #include <stdlib.h>
 #include <string.h>
-#include <sys/wait.h>
 #include <time.h>
-#include <unistd.h>
 
-enum { SEED = 20261115, TURNS = 25, SHORTEST_NS = 4000000 };
+enum { SEED = 20261115, TURNS = 40, SHORTEST_NS = 4000000, REST_NS = 2000000 };
 
-/* OpenSSL's switch for what it takes the processor to have, and its value without the SHA instructions. */
-#define SWITCH "OPENSSL_ia32cap"
-#define WITHOUT_SHA ":~0x20000000"
+/* ---- What is timed ---- */
 
-/* What is timed: t tokens for set-up and update, n blocks for a proof. */
+/* The ways to run a call, in the order in which they take turns. Without SHA instructions it is the helper that runs. */
+enum { LIBCRYPTO, PLAIN, AVX2, AVX512, CHOSEN, WITHOUT_SHA, WAYS };
+
+static uint64_t (*const runs[WAYS])(struct call *) = {call_second, call_plain, call_avx2, call_avx512, call_library, NULL};
+
+/* t tokens for set-up and update, n blocks for a proof. */
 struct measure {
     const char *title; /* begins a table */
     enum kind kind;
@@ -34,51 +40,38 @@ struct measure {
 
 enum { T_SET_UP = 4, T_UPDATE = 64 };
 
-/* The three calls at one size. */
-#define CALLS(title, B, d, r)                                                                                                  \
-    {title, SET_UP, B, d, r, T_SET_UP, d}, {NULL, UPDATE, B, d, r, T_UPDATE, d}, {NULL, PROVE, B, d, r, 1, d}
+/* Set-up and proof at one size. */
+#define BOTH(title, B, d, r) {title, SET_UP, B, d, r, T_SET_UP, d}, {NULL, PROVE, B, d, r, 1, d}
 
 static const struct measure measures[] = {
-    CALLS("Against libcrypto", 64, 4096, 64),
-    CALLS(NULL, 64, 4096, 460),
-    CALLS(NULL, 64, 5000, 64),
-    CALLS(NULL, 64, 5000, 460),
-    CALLS(NULL, 1024, 4096, 64),
-    CALLS(NULL, 1024, 4096, 460),
-    CALLS(NULL, 1024, 5000, 64),
-    CALLS(NULL, 1024, 5000, 460),
-    CALLS(NULL, 4096, 4096, 64),
-    CALLS(NULL, 4096, 4096, 460),
-    CALLS(NULL, 4096, 5000, 64),
-    CALLS(NULL, 4096, 5000, 460),
-    {"Growth with n/d, the columns: proof", PROVE, 1024, 4096, 64, 1, 4096},
-    {NULL, PROVE, 1024, 4096, 64, 1, 6144},
-    {NULL, PROVE, 1024, 4096, 64, 1, 16384},
-    {NULL, PROVE, 1024, 4096, 64, 1, 40960},
-    {"Growth with t, the tokens: set-up and update", SET_UP, 64, 4096, 64, 4, 4096},
-    {NULL, SET_UP, 64, 4096, 64, 16, 4096},
+    BOTH("Set-up and proof", 64, 4096, 64),
+    BOTH(NULL, 64, 4096, 460),
+    BOTH(NULL, 1024, 4096, 64),
+    BOTH(NULL, 1024, 4096, 460),
+    BOTH(NULL, 4096, 4096, 64),
+    BOTH(NULL, 4096, 4096, 460),
+    BOTH(NULL, 1024, 5000, 460),
+    {"Update", UPDATE, 64, 4096, 64, T_UPDATE, 4096},
+    {NULL, UPDATE, 64, 5000, 64, T_UPDATE, 5000},
+    {NULL, UPDATE, 1024, 4096, 64, T_UPDATE, 4096},
+    {NULL, UPDATE, 4096, 4096, 64, T_UPDATE, 4096},
+    {NULL, UPDATE, 4096, 4096, 460, T_UPDATE, 4096},
+    {"Growth with t, the tokens", SET_UP, 64, 4096, 64, 4, 4096},
     {NULL, SET_UP, 64, 4096, 64, 64, 4096},
     {NULL, UPDATE, 64, 4096, 64, 16, 4096},
-    {NULL, UPDATE, 64, 4096, 64, 64, 4096},
     {NULL, UPDATE, 64, 4096, 64, 256, 4096},
-    {"Growth with r, the positions: set-up and proof", SET_UP, 64, 4096, 16, T_SET_UP, 4096},
-    {NULL, SET_UP, 64, 4096, 64, T_SET_UP, 4096},
-    {NULL, SET_UP, 64, 4096, 256, T_SET_UP, 4096},
-    {NULL, PROVE, 64, 4096, 16, 1, 4096},
+    {"Growth with r, the positions", PROVE, 64, 4096, 16, 1, 4096},
     {NULL, PROVE, 64, 4096, 64, 1, 4096},
     {NULL, PROVE, 64, 4096, 256, 1, 4096},
-    {"Growth with B, the bytes in a block: proof", PROVE, 16, 4096, 64, 1, 4096},
+    {"Growth with B, the bytes in a block", PROVE, 16, 4096, 64, 1, 4096},
     {NULL, PROVE, 256, 4096, 64, 1, 4096},
-    {NULL, PROVE, 1024, 4096, 64, 1, 4096},
     {NULL, PROVE, 4096, 4096, 64, 1, 4096},
+    {"Growth with n/d, the columns", PROVE, 1024, 4096, 64, 1, 4096},
+    {NULL, PROVE, 1024, 4096, 64, 1, 6144},
+    {NULL, PROVE, 1024, 4096, 64, 1, 40960},
 };
 
 enum { MEASURES = sizeof measures / sizeof *measures };
-
-/* Nanoseconds for one call: of the library, of the second implementation, and of that without SHA instructions. */
-struct times {
-    double ours, theirs, without;
-};
 
 /* A proof of n blocks, which need not be those of the file that the message is drawn from. */
 static struct call proof_call(const struct measure *m)
@@ -106,13 +99,15 @@ static struct call update_call(const struct measure *m)
     return update;
 }
 
-/* The call that is timed. It is accepted again and again on its own buffers: an update takes the bytes handed over. */
+/* The call that is timed. It is accepted again and again on its own buffers, by any way: an update takes the bytes handed over. */
 static struct call measured_call(const struct measure *m)
 {
     if (m->kind == SET_UP)
         return file_set_up_call(m->B, m->d, m->r, m->t);
     return m->kind == UPDATE ? update_call(m) : proof_call(m);
 }
+
+/* ---- Time ---- */
 
 static double now(void)
 {
@@ -122,11 +117,11 @@ static double now(void)
 }
 
 /* Nanoseconds for one of so many calls. Updates go through all blocks. */
-static double timed(uint64_t (*run)(struct call *), struct call *call, const struct measure *m, unsigned calls)
+static double timed(uint64_t (*run)(struct call *), struct call *call, uint64_t n, unsigned calls)
 {
     double start = now();
     for (unsigned i = 0; i < calls; i++) {
-        call->m = 1 + i * UINT64_C(997) % m->n;
+        call->m = 1 + i * UINT64_C(997) % n;
         if (run(call) != LEGBARO_OK) {
             fprintf(stderr, "bench: %s was not accepted\n", call_name(call->kind));
             exit(1);
@@ -135,100 +130,67 @@ static double timed(uint64_t (*run)(struct call *), struct call *call, const str
     return (now() - start) / calls;
 }
 
-static double least(double a, double b)
+/* What the helper answers. */
+static double helped(int row, unsigned calls)
 {
-    return a < b ? a : b;
-}
-
-/* ---- The helper ---- */
-
-static FILE *questions, *answers;
-
-/* Ends the program where a step that must succeed did not. */
-static void must(int done)
-{
-    if (!done) {
-        fputs("bench: the run without SHA instructions failed\n", stderr);
-        exit(1);
+    static struct call call;
+    static int last = -1;
+    if (row != last) {
+        call_free(&call);
+        last = row;
+        call = measured_call(&measures[row]);
     }
+    return timed(call_second, &call, measures[row].n, calls);
 }
 
-/* Starts this program once more, without SHA instructions. */
-static void helper_start(const char *program)
+/* The time of a way, behind a rest: a processor may run slower for a while after the widest code. */
+static double timed_by(int way, struct call *call, int row, unsigned calls)
 {
-    int there[2], back[2];
-    must(pipe(there) == 0 && pipe(back) == 0);
-    pid_t child = fork();
-    must(child >= 0);
-    if (child == 0) {
-        must(dup2(there[0], STDIN_FILENO) >= 0 && dup2(back[1], STDOUT_FILENO) >= 0);
-        must(close(there[1]) == 0 && close(back[0]) == 0);
-        must(setenv(SWITCH, WITHOUT_SHA, 1) == 0);
-        execl(program, program, "--helper", (char *)NULL);
-        must(0);
+    for (double start = now(); now() - start < REST_NS;)
+        ;
+    return way == WITHOUT_SHA ? helper_timed(row, calls) : timed(runs[way], call, measures[row].n, calls);
+}
+
+/* Nanoseconds for one call by each way, and 0 for a code that the processor can't run. */
+struct times {
+    double best[WAYS];
+};
+
+/* Compares what a code writes with what the second implementation writes. */
+static void compare(uint64_t (*run)(struct call *), const struct call *call)
+{
+    struct call copy = call_copy(call);
+    copy.m = 1;
+    expect(call_compare_by(run, &copy) == LEGBARO_OK, "%s: accepted", call_name(call->kind));
+    call_free(&copy);
+}
+
+static struct times measure(int row)
+{
+    struct call call = measured_call(&measures[row]);
+    struct times t = {{0}};
+    unsigned calls[WAYS];
+    call.m = 1;
+    for (int way = 0; way < WAYS; way++) {
+        int code = way >= PLAIN && way <= CHOSEN;
+        if (code && !code_runs(runs[way], &call))
+            continue;
+        if (code)
+            compare(runs[way], &call);
+        t.best[way] = timed_by(way, &call, row, 1);
+        calls[way] = 1 + (unsigned)(SHORTEST_NS / t.best[way]);
     }
-    must(close(there[0]) == 0 && close(back[1]) == 0);
-    questions = fdopen(there[1], "w");
-    answers = fdopen(back[0], "r");
-    must(questions && answers);
-}
-
-/* The helper's time for so many calls of a row. */
-static double helper_timed(int row, unsigned calls)
-{
-    double time;
-    must(fprintf(questions, "%d %u\n", row, calls) > 0 && fflush(questions) == 0);
-    must(fscanf(answers, "%lf", &time) == 1);
-    return time;
-}
-
-/* Ends the helper, which has no more questions to answer. */
-static void helper_end(void)
-{
-    int status;
-    must(fclose(questions) == 0 && fclose(answers) == 0);
-    must(wait(&status) > 0 && status == 0);
-}
-
-/* What the helper does: it answers every question. */
-static void help(void)
-{
-    struct call call = {.kind = SET_UP};
-    int asked, row = -1;
-    unsigned calls;
-    while (scanf("%d %u", &asked, &calls) == 2) {
-        if (asked != row) {
-            call_free(&call);
-            row = asked;
-            call = measured_call(&measures[row]);
-        }
-        printf("%f\n", timed(call_second, &call, &measures[row], calls));
-        fflush(stdout);
-    }
+    for (int turn = 0; turn < TURNS; turn++)
+        for (int way = 0; way < WAYS; way++)
+            if (t.best[way] > 0) {
+                double time = timed_by(way, &call, row, calls[way]);
+                t.best[way] = time < t.best[way] ? time : t.best[way];
+            }
     call_free(&call);
+    return t;
 }
 
 /* ---- The tables ---- */
-
-/* Compares what the library and the second implementation write, then times all three in turn. */
-static struct times measure(int row)
-{
-    const struct measure *m = &measures[row];
-    struct call compared = measured_call(m);
-    struct call ours = call_copy(&compared), theirs = call_copy(&compared);
-    call_expect(&compared, LEGBARO_OK, "accepted");
-    struct times best = {timed(call_library, &ours, m, 1), timed(call_second, &theirs, m, 1), helper_timed(row, 1)};
-    unsigned calls = 1 + (unsigned)(SHORTEST_NS / best.ours);
-    for (int turn = 0; turn < TURNS; turn++) {
-        best.ours = least(best.ours, timed(call_library, &ours, m, calls));
-        best.theirs = least(best.theirs, timed(call_second, &theirs, m, calls));
-        best.without = least(best.without, helper_timed(row, calls));
-    }
-    call_free(&compared);
-    call_free(&ours);
-    call_free(&theirs);
-    return best;
-}
 
 /* The processor's name, from the system. */
 static void print_processor(void)
@@ -249,42 +211,76 @@ static void print_heading(const struct measure *m)
     if (!m->title)
         return;
     printf("\n%s\n\n", m->title);
-    puts("| Call | B | d | r | t | n | Legbaro, µs | libcrypto, µs | ratio | libcrypto without SHA instructions, µs | ratio |");
-    puts("|---|---|---|---|---|---|---|---|---|---|---|");
+    puts("| Call | B | d | r | t | n | libcrypto, µs | chosen, µs | plain | AVX2 | AVX-512 | chosen | libcrypto without SHA instructions |");
+    puts("|---|---|---|---|---|---|---|---|---|---|---|---|---|");
 }
 
 static void print_row(const struct measure *m, struct times t)
 {
     print_heading(m);
-    printf("| %s | %llu | %llu | %llu | %llu | %llu | %.1f | %.1f | %.2f | %.1f | %.2f |\n", call_name(m->kind),
-           (unsigned long long)m->B, (unsigned long long)m->d, (unsigned long long)m->r, (unsigned long long)m->t,
-           (unsigned long long)m->n, t.ours / 1e3, t.theirs / 1e3, t.ours / t.theirs, t.without / 1e3, t.ours / t.without);
+    printf("| %s | %llu | %llu | %llu | %llu | %llu | %.1f | %.1f |", call_name(m->kind), (unsigned long long)m->B,
+           (unsigned long long)m->d, (unsigned long long)m->r, (unsigned long long)m->t, (unsigned long long)m->n,
+           t.best[LIBCRYPTO] / 1e3, t.best[CHOSEN] / 1e3);
+    for (int way = PLAIN; way < WAYS; way++)
+        if (t.best[way] > 0)
+            printf(" %.2f |", t.best[way] / t.best[LIBCRYPTO]);
+        else
+            printf(" none |");
+    putchar('\n');
     fflush(stdout);
 }
 
-static void print_tables(void)
+static void print_tables(const char *program)
 {
+    helper_start(program);
+    group_begin("the library and the second implementation write the same");
     print_processor();
-    printf("%s\n", OpenSSL_version(OPENSSL_VERSION));
+    puts(OpenSSL_version(OPENSSL_VERSION));
     for (int row = 0; row < MEASURES; row++)
         print_row(&measures[row], measure(row));
     putchar('\n');
+    group_end();
+    helper_end();
+}
+
+/* Times the great set-up by one way, and expects card and table of the way before. */
+static void print_whole(const char *way, uint64_t (*run)(struct call *), const struct call *call, struct call *before)
+{
+    struct call own = call_copy(call);
+    printf("%s: %.1f s\n", way, timed(run, &own, 1, 1) / 1e9);
+    fflush(stdout);
+    for (int role = CARD; before->lent[CARD].bytes && role <= TABLE; role++)
+        expect(buffer_same(&own.lent[role], &before->lent[role]), "%s: the same bytes", way);
+    call_free(before);
+    *before = own;
+}
+
+static void print_headline(void)
+{
+    struct call call = file_set_up_call(4096, 4096, 512, 11680), before = {.kind = SET_UP};
+    group_begin("the great set-up writes the same each way");
+    print_processor();
+    puts("set-up of 11680 tokens, r = 512, B = 4096, d = 4096");
+    print_whole("as chosen", call_library, &call, &before);
+    print_whole("plain x86-64, no AVX", call_plain, &call, &before);
+    print_whole("libcrypto", call_second, &call, &before);
+    call_free(&before);
+    call_free(&call);
+    group_end();
 }
 
 int main(int count, char **words)
 {
-    int helper = count == 2 && !strcmp(words[1], "--helper");
+    const char *word = count == 2 ? words[1] : "";
+    int helper = !strcmp(word, HELPER);
     chance_start(SEED);
     second_start();
-    group_begin("the library and the second implementation write the same");
     if (helper)
-        help();
-    else {
-        helper_start(words[0]);
-        print_tables();
-        helper_end();
-        group_end();
-    }
+        help(helped);
+    else if (!strcmp(word, "--headline"))
+        print_headline();
+    else
+        print_tables(words[0]);
     second_end();
     return helper || groups_passed() ? 0 : 1;
 }

@@ -28,7 +28,8 @@
  *     tokens that cover the block no longer fit the file.
  *
  * The library keeps nothing between calls, allocates nothing, and needs less than 64 KB of stack. Calls on separate buffers may run at
- * the same time. It is compiled for x86-64. Time and other side channels are not covered.
+ * the same time. It runs on every x86-64 processor, and uses AVX2 or AVX-512 where a program is loaded on a processor that has them; what
+ * it writes is the same. Time and other side channels are not covered.
  */
 #ifndef LEGBARO_H
 #define LEGBARO_H

@@ -2,6 +2,7 @@
 #include "calls.h"
 
 #include "groups.h"
+#include "run.h"
 #include "second.h"
 
 /* The buffers of each kind of call, a bit for each role, and those among them that it writes. */
@@ -49,35 +50,14 @@ void call_free(struct call *call)
         buffer_free(&call->lent[role]);
 }
 
-/* A buffer as C passes it, and the whole dispatch, which differs only in the names of the functions. */
-#define LENT(role) call->lent[role].bytes, call->lent[role].length
-#define RUN(implementation)                                                                                            \
-    switch (call->kind) {                                                                                              \
-    case SET_UP:                                                                                                       \
-        return implementation##_set_up(LENT(MASTER), LENT(ID), call->B, call->d, call->r, call->t, LENT(BLOCKS),       \
-                                       LENT(CARD), LENT(TABLE));                                                       \
-    case UPDATE:                                                                                                       \
-        return implementation##_update(LENT(MASTER), LENT(CARD), LENT(TABLE), call->m, LENT(OLD), LENT(NEW));          \
-    case DELETE:                                                                                                       \
-        return implementation##_delete(LENT(MASTER), LENT(CARD), LENT(TABLE), call->m, LENT(OLD));                     \
-    case APPEND:                                                                                                       \
-        return implementation##_append(LENT(MASTER), LENT(CARD), LENT(TABLE), LENT(NEW));                              \
-    case DRAW:                                                                                                         \
-        return implementation##_draw(LENT(MASTER), LENT(CARD), LENT(MESSAGE));                                         \
-    case JUDGE:                                                                                                        \
-        return implementation##_judge(LENT(MASTER), LENT(CARD), LENT(REPLY));                                          \
-    default:                                                                                                           \
-        return implementation##_prove(LENT(MESSAGE), LENT(BLOCKS), LENT(TABLE), LENT(REPLY));                          \
-    }
-
 uint64_t call_library(struct call *call)
 {
-    RUN(legbaro)
+    RUN(legbaro, )
 }
 
 uint64_t call_second(struct call *call)
 {
-    RUN(second)
+    RUN(second, )
 }
 
 /* What is expected of one buffer after a call: `ours` after the library, `theirs` after the second implementation, `before`. */
@@ -89,10 +69,10 @@ static void compare_buffer(enum kind kind, enum role role, int written, const st
     expect(buffer_guarded(ours), "%s: nothing written around the %s", kinds[kind].name, roles[role]);
 }
 
-uint64_t call_compare(struct call *call)
+uint64_t call_compare_by(uint64_t (*run)(struct call *), struct call *call)
 {
     struct call before = call_copy(call), other = call_copy(call);
-    uint64_t number = call_library(call);
+    uint64_t number = run(call);
     uint64_t expected = call_second(&other);
     int refused = number != LEGBARO_OK && number != LEGBARO_REJECTED;
     if (LEGBARO_CODE(number) <= LEGBARO_REJECTED)
@@ -107,6 +87,11 @@ uint64_t call_compare(struct call *call)
     call_free(&before);
     call_free(&other);
     return number;
+}
+
+uint64_t call_compare(struct call *call)
+{
+    return call_compare_by(call_library, call);
 }
 
 unsigned long call_count(enum kind kind, uint64_t code)

@@ -30,8 +30,10 @@ uint64_t call_library(struct call *call);
 uint64_t call_second(struct call *call);
 
 /* Runs the call on the library, and a copy of it on the second implementation. Expects the same number and the same bytes in every buffer;
- * buffers that the call does not write, and in a refusal all of them, to be as they were; guard bytes too. Answers the number. */
+ * buffers that the call does not write, and in a refusal all of them, to be as they were; guard bytes too. Answers the number.
+ * `call_compare_by` runs the call by what it is given in the library's place. */
 uint64_t call_compare(struct call *call);
+uint64_t call_compare_by(uint64_t (*run)(struct call *), struct call *call);
 
 /* How many compared calls of a kind returned a code. */
 unsigned long call_count(enum kind kind, uint64_t code);

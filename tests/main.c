@@ -3,7 +3,7 @@
  *
  *   --seed N    another seed than the fixed one
  *   --lists N   how many random lists
- *   --exact     buffers without guard bytes, and no large files: for a run under a memory checker
+ *   --exact     buffers without guard bytes, no large files, and no look at a stack: for a run under a memory checker
  */
 #include "tests.h"
 
@@ -56,8 +56,10 @@ int main(int count, char **words)
     test_faults();
     test_bits();
     test_lists(options.lists);
-    if (!options.exact)
+    if (!options.exact) {
         test_limits();
+        test_stack();
+    }
     test_codes();
     second_end();
     return groups_passed() ? 0 : 1;

@@ -20,6 +20,9 @@ void test_lists(unsigned lists);
 /* The most of every number. */
 void test_limits(void);
 
+/* That each call needs no more stack than the header says. */
+void test_stack(void);
+
 /* That each call returned each of its codes, and no other, in all of these. */
 void test_codes(void);
 

@@ -3,12 +3,16 @@
 --   bytes-few         as many bytes as the limits allow
 --   bytes-inside      a block's bytes lie in the buffer
 --   column-inside     a column that a row has holds a block
+--   seat-inside       a block's place lies in the buffer
 use Prim.Native.Nat.{ℕ, suc, _+_, _*_, _-_, _≤_, _<_}
 use native.Mathlib.Omega.{arith}
 use native.Mathlib.Nat.{suc-mul, mul-le-mul-right, le-trans}
 use mathlib.Core.Path.{_≡_, sym, ap, subst, _∙_}
-use Rattle.scheme.specs.Tokens.{columnsOf}
+use mathlib.Core.List.{List}
+use lib.ListN.{length}
+use Rattle.scheme.specs.Tokens.{blockIn, columnsOf}
 use Rattle.scheme.proofs.GeometryLaws.{in-blocks}
+use Rattle.digests.specs.Layout.{Seat, start}
 
 pub block-end : (m B : ℕ) → 1 ≤ m → (m - 1) * B + B ≡ m * B
 block-end m B l =
@@ -26,3 +30,7 @@ column-inside d n ρ q l h i =
     let e : ρ ≡ ρ - 1 + 1 = omega arith in
     let j : q < columnsOf d n (ρ - 1 + 1) = subst (λ (x : ℕ). q < columnsOf d n x) e i in
     omega (arith, in-blocks d (omega arith) n (ρ - 1) q (omega arith) j)
+
+pub seat-inside : (d ρ q B : ℕ) (xs : List ℕ) → Seat d ρ q B xs → start d ρ q B + B ≤ length xs
+unfolding start blockIn
+seat-inside d ρ q B xs seat = omega (arith, block-end (q * d + ρ) B (omega (arith, seat .from-one)), seat .inside)

@@ -2,13 +2,15 @@
 --   Laid d B n blocks           blocks holds n blocks of B bytes, in d rows, within the limits
 --   Row d ρ                     ρ is one of d rows
 --   Seat d ρ q B blocks         the block in row ρ and column q, of d rows, lies in blocks
---   said c d ρ j q B blocks     what is hashed of it at position j, under the key c
+--   start d ρ q B               where it begins
+--   hashAt c d ρ j q B blocks   its hash at position j, under the key c
 use Prim.Native.Nat.{ℕ, _+_, _*_, _-_, _≤_}
-use mathlib.Core.List.{List, _++_}
+use mathlib.Core.List.{List}
 use mathlib.Core.Path.{_≡_}
 use lib.ListN.{length}
-use Rattle.octets.specs.Octets.{be, part}
-use Rattle.scheme.specs.Tokens.{blockIn, indexOf}
+use Rattle.octets.specs.Octets.{part}
+use Rattle.scheme.specs.Tokens.{blockIn, indexOf, blockHash}
+use Rattle.standard.specs.Standard.{standard}
 
 -- "B, bytes in a block | 1 | 4,096", "d, rows | 1 | 1,048,576", "n, blocks | d | 16,777,216", as far as the code asks for them
 pub record Laid (d B n : ℕ) (blocks : List ℕ) : Type 0 where
@@ -28,6 +30,9 @@ pub record Seat (d ρ q B : ℕ) (blocks : List ℕ) : Type 0 where
   pub small : B ≤ 4096
   pub inside : (q * d + ρ) * B ≤ length blocks
 
+unfoldable pub start : ℕ → ℕ → ℕ → ℕ → ℕ
+start d ρ q B = (blockIn d ρ q - 1) * B
+
 -- "SHA-256(c, column × d + j as four bytes, block)"
-unfoldable pub said : List ℕ → ℕ → ℕ → ℕ → ℕ → ℕ → List ℕ → List ℕ
-said c d ρ j q B blocks = c ++ be 4 (indexOf d q j) ++ part ((blockIn d ρ q - 1) * B) B blocks
+unfoldable pub hashAt : List ℕ → ℕ → ℕ → ℕ → ℕ → ℕ → List ℕ → List ℕ
+hashAt c d ρ j q B blocks = blockHash standard c (indexOf d q j) (part (start d ρ q B) B blocks)

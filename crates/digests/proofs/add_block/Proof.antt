@@ -1,86 +1,74 @@
--- In each of the four places the message waits, or all are hashed, by the laws of waiting.
+-- What is hashed is the key, the index and the block, by hashed-at.
 use borrow.Author.Needs.{needs}
 use native.Mathlib.Omega.{arith}
-use mathlib.Core.Path.{_≡_}
-use Rattle.digests.proofs.WaitingLaws.{fourth, first-waits, second-waits, third-waits, four-hashed}
+use mathlib.Core.Path.{_≡_, refl, ap, subst, _∙_, sym}
+use Prim.Native.Nat.{ℕ, _+_, _≤_}
+use mathlib.Core.List.{List}
+use lib.ListN.{length}
+use Rattle.sha256.specs.Sha256.{padding}
+use Rattle.sums.specs.Waiting.{Cut}
+use Rattle.digests.proofs.BlockLaws.{seat-inside}
+use Rattle.digests.proofs.TurnLaws.{hashed-at}
 use Rattle.digests.proofs.add_block.Statement.{statement}
 use Rattle.digests.proofs.add_block.Tie as tie
 
-lay-requires : tie.Need-lay-requires
-lay-requires c κs = search needs
+head-long : (c : tie.After-head-of) → length (c .head-of .result) ≡ 36
+head-long c = search needs
+
+index-of-requires : tie.Need-index-of-requires
+index-of-requires c κs = search needs
+
+head-of-requires : tie.Need-head-of-requires
+head-of-requires c κs = search needs
+
+start-of-requires : tie.Need-start-of-requires
+start-of-requires c κs = search needs
+
+slice-aggregate-add : tie.Need-slice-aggregate-add
+slice-aggregate-add c = search needs
+
+add-requires : tie.Need-add-requires
+add-requires c κs =
+    let started = c .before .before .before in
+    let headed = started .before in
+    let s = headed .before .before .before .before .before in
+    let a = s .args in
+    let p = s .pre in
+    let long = head-long headed in (
+      p .0,
+      subst (λ (h : ℕ). Cut (a .f) h (a .size)) (sym long) (p .1),
+      omega (arith, started .start-of .ensures .1, p .2 .inside),
+      p .4 ∙ ap (λ (h : ℕ). padding (h + a .size)) (sym long),
+      p .5,
+    )
 
 same-length : tie.Need-same-length
 same-length c = search needs
 
 returns : tie.Need-returns
 returns c =
-    let a = c .before .before .before .before .before .before .before .before .before .before .before .args in
-    (omega arith, first-waits (a .s) (a .m0 .now) (a .m1 .now) (a .m2 .now) _ _ (c .before .before .before .before .if1 .taken) (c .before .before .lay .ensures))
-
-lay-requires-2 : tie.Need-lay-requires-2
-lay-requires-2 c κs = search needs
-
-same-length-2 : tie.Need-same-length-2
-same-length-2 c = search needs
-
-returns-2 : tie.Need-returns-2
-returns-2 c =
-    let a = c .before .before .before .before .before .before .before .before .before .before .before .before .args in
-    (omega arith, second-waits (a .s) (a .m0 .now) (a .m1 .now) (a .m2 .now) _ _ (c .before .before .before .before .if2 .taken) (c .before .before .lay2 .ensures))
-
-lay-requires-3 : tie.Need-lay-requires-3
-lay-requires-3 c κs = search needs
-
-same-length-3 : tie.Need-same-length-3
-same-length-3 c = search needs
-
-returns-3 : tie.Need-returns-3
-returns-3 c =
-    let a = c .before .before .before .before .before .before .before .before .before .before .before .before .before .args in
-    (omega arith, third-waits (a .s) (a .m0 .now) (a .m1 .now) (a .m2 .now) _ _ (c .before .before .before .before .if3 .taken) (c .before .before .lay3 .ensures))
-
-lay-requires-4 : tie.Need-lay-requires-4
-lay-requires-4 c κs = search needs
-
-with-four-requires : tie.Need-with-four-requires
-with-four-requires c κs = search needs
-
-same-length-4 : tie.Need-same-length-4
-same-length-4 c = search needs
-
-same-length-5 : tie.Need-same-length-5
-same-length-5 c = search needs
-
-same-length-6 : tie.Need-same-length-6
-same-length-6 c = search needs
-
-same-length-7 : tie.Need-same-length-7
-same-length-7 c = search needs
-
-returns-4 : tie.Need-returns-4
-returns-4 c =
-    let s = c .before .before .before .before .before .before .before .before .before .before .before .before .before .before .before .before .before .before in
-    let a = s .args in
-    let full : a .s .fill ≡ 3 = fourth (a .s .fill) (s .pre .0 .0) (c .before .before .before .before .before .before .before .before .before .before .before .if1 .left) (c .before .before .before .before .before .before .before .before .before .before .if2 .left) (c .before .before .before .before .before .before .before .before .before .if3 .left) in
-    (omega arith, four-hashed (a .s) (a .m0 .now) (a .m1 .now) (a .m2 .now) _ _ _ full (c .before .before .before .before .before .before .before .lay4 .ensures) (search needs) (c .with-four .ensures))
+    let added = c .before .before in
+    let started = added .before .before .before .before in
+    let headed = started .before in
+    let indexed = headed .before in
+    let s = indexed .before .before .before .before in
+    let a = s .args in (
+      added .add .ensures .0,
+      hashed-at (a .c) (headed .head-of .result) _ _ (a .blocks .now) (a .rows) (a .row .0) (a .j .0) (a .column) (a .size) (indexed .index-of .result) (started .start-of .result)
+          (indexed .index-of .ensures)
+          (headed .head-of .ensures)
+          (started .start-of .ensures .0)
+          (added .add .ensures .1),
+    )
 
 pub add-block-spec : {M : Type 1} → statement M
 add-block-spec =
     tie.close
     (tie.spec
-    lay-requires
+    index-of-requires
+    head-of-requires
+    start-of-requires
+    slice-aggregate-add
+    add-requires
     same-length
-    returns
-    lay-requires-2
-    same-length-2
-    returns-2
-    lay-requires-3
-    same-length-3
-    returns-3
-    lay-requires-4
-    with-four-requires
-    same-length-4
-    same-length-5
-    same-length-6
-    same-length-7
-    returns-4)
+    returns)

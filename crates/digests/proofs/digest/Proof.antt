@@ -1,15 +1,21 @@
+-- The padding is lent as far as it goes; the table is empty or has all values of the round function.
 use borrow.Author.Needs.{needs}
 use native.Mathlib.Omega.{arith}
-use mathlib.Core.Path.{sym, subst}
+use mathlib.Core.Path.{_≡_, sym, ap, subst, _∙_}
 use mathlib.Core.List.{List}
 use Prim.Native.Nat.{ℕ}
-use lib.ListN.{take}
+use lib.ListN.{length, take, length-replicate}
 use lib.Seq.{length-take-le}
 use Rattle.permutation.specs.Rounds.{half}
 use Rattle.permutation.specs.Table.{Tabled}
-use Rattle.digests.proofs.MessageLaws.{cut-long}
 use Rattle.digests.proofs.digest.Statement.{statement}
 use Rattle.digests.proofs.digest.Tie as tie
+
+bytes-long : (c : tie.After-pad) → length (c .pad .result .bytes) ≡ 72
+bytes-long c = search needs
+
+pad-long : (c : tie.After-pad) → length (take (c .pad .result .len) (c .pad .result .bytes)) ≡ c .pad .result .len
+pad-long c = length-take-le (c .pad .result .len) (c .pad .result .bytes) (omega (arith, c .pad .ensures .0, bytes-long c))
 
 slice-aggregate-key-words : tie.Need-slice-aggregate-key-words
 slice-aggregate-key-words c = search needs
@@ -23,54 +29,50 @@ slice-aggregate-tabulated c = search needs
 tabulated-requires : tie.Need-tabulated-requires
 tabulated-requires c κs = search needs
 
-add-end : tie.Need-add-end
-add-end c = search needs
+add-pad : tie.Need-add-pad
+add-pad c = search needs
+
+pad-requires : tie.Need-pad-requires
+pad-requires c κs = search needs
+
+form-of-requires : tie.Need-form-of-requires
+form-of-requires c κs =
+    let padded = c .before in
+    let s = padded .before .before .before .before .before .before .before in
+    (omega arith, s .pre .0 .small, sym (pad-long padded) ∙ ap length (padded .pad .ensures .1))
 
 array-share-prefix-table : tie.Need-array-share-prefix-table
 array-share-prefix-table c = search needs
 
 slice-aggregate-digest-in : tie.Need-slice-aggregate-digest-in
 slice-aggregate-digest-in c =
-    let t = c .before .before .tabulated .ensures in
+    let t = c .before .before .before .before .before .tabulated .ensures in
     sym (length-take-le _ _ (omega (arith, t .0, t .1)))
 
-array-borrow-prefix-m0 : tie.Need-array-borrow-prefix-m0
-array-borrow-prefix-m0 c = search needs
+array-share-prefix-bytes : tie.Need-array-share-prefix-bytes
+array-share-prefix-bytes c =
+    let n = bytes-long (c .before .before .before) in
+    omega arith
 
 slice-aggregate-digest-in-2 : tie.Need-slice-aggregate-digest-in-2
-slice-aggregate-digest-in-2 c = sym (cut-long (c .before .before .before .before .before .before .before .before .args .size) (c .before .before .before .before .before .before .before .before .pre .0 .small))
-
-array-borrow-prefix-m1 : tie.Need-array-borrow-prefix-m1
-array-borrow-prefix-m1 c = search needs
+slice-aggregate-digest-in-2 c = sym (pad-long (c .before .before .before .before))
 
 slice-aggregate-digest-in-3 : tie.Need-slice-aggregate-digest-in-3
-slice-aggregate-digest-in-3 c = sym (cut-long (c .before .before .before .before .before .before .before .before .before .args .size) (c .before .before .before .before .before .before .before .before .before .pre .0 .small))
-
-array-borrow-prefix-m2 : tie.Need-array-borrow-prefix-m2
-array-borrow-prefix-m2 c = search needs
-
-slice-aggregate-digest-in-4 : tie.Need-slice-aggregate-digest-in-4
-slice-aggregate-digest-in-4 c = sym (cut-long (c .before .before .before .before .before .before .before .before .before .before .args .size) (c .before .before .before .before .before .before .before .before .before .before .pre .0 .small))
-
-array-borrow-prefix-m3 : tie.Need-array-borrow-prefix-m3
-array-borrow-prefix-m3 c = search needs
-
-slice-aggregate-digest-in-5 : tie.Need-slice-aggregate-digest-in-5
-slice-aggregate-digest-in-5 c = sym (cut-long (c .before .before .before .before .before .before .before .before .before .before .before .args .size) (c .before .before .before .before .before .before .before .before .before .before .before .pre .0 .small))
+slice-aggregate-digest-in-3 c = search needs
 
 digest-in-requires : tie.Need-digest-in-requires
 digest-in-requires c κs =
-    let tabled = c .before .before .before .before .before .before in
-    let s = tabled .before .before .before .before .before in
-    let long = cut-long (s .args .size) (s .pre .0 .small) in (
-      (
-        s .pre .0,
-        s .pre .1,
-        subst (λ (w : List ℕ). Tabled w (half (s .args .rows)) (take (tabled .tabulated .result) (tabled .tabulated .last .1 .1 .1 .0)))
-            (tabled .before .before .key-words .ensures)
-            (tabled .tabulated .ensures .2),
-      ),
-      (long, long, long, long),
+    let padded = c .before .before .before .before .before in
+    let tabled = padded .before .before in
+    let s = tabled .before .before .before .before .before in (
+      s .pre .0,
+      s .pre .1,
+      subst (λ (w : List ℕ). Tabled w (half (s .args .rows)) (take (tabled .tabulated .result) (tabled .tabulated .last .1 .1 .1 .0)))
+          (tabled .before .before .key-words .ensures)
+          (tabled .tabulated .ensures .2),
+      c .before .before .before .form-of .ensures,
+      padded .pad .ensures .1,
+      length-replicate {A = ℕ} 3072 0,
     )
 
 returns : tie.Need-returns
@@ -84,16 +86,13 @@ digest-spec =
     key-words-requires
     slice-aggregate-tabulated
     tabulated-requires
-    add-end
+    add-pad
+    pad-requires
+    form-of-requires
     array-share-prefix-table
     slice-aggregate-digest-in
-    array-borrow-prefix-m0
+    array-share-prefix-bytes
     slice-aggregate-digest-in-2
-    array-borrow-prefix-m1
     slice-aggregate-digest-in-3
-    array-borrow-prefix-m2
-    slice-aggregate-digest-in-4
-    array-borrow-prefix-m3
-    slice-aggregate-digest-in-5
     digest-in-requires
     returns)

@@ -1,0 +1,4 @@
+mod PlaceLaws
+mod MessageLaws
+pub mod WaitingLaws
+mod AddLaws

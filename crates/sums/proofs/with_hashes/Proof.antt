@@ -1,0 +1,87 @@
+-- After k turns the hashes of the first k messages are in the digest, by hashes-turn.
+use borrow.Author.Needs.{needs}
+use native.Mathlib.Omega.{arith}
+use mathlib.Core.Path.{_≡_}
+use Prim.Native.Nat.{_-_, _≤_}
+use Rattle.octets.specs.Octets.{xors}
+use Rattle.sums.specs.Waiting.{hashes}
+use Rattle.sums.proofs.PlaceLaws.{lanes-few}
+use Rattle.sums.proofs.WaitingLaws.{hashes-none, hashes-turn, hashes-done}
+use Rattle.sums.proofs.with_hashes.Statement.{statement}
+use Rattle.sums.proofs.with_hashes.Tie as tie
+
+abbrev Inv-loop : tie.InvT-loop
+Inv-loop far at p fill lanes long gap s y₀ k₀ y k = (k ≤ fill) × (y ≡ xors y₀ (hashes p long far at gap k))
+
+abbrev μ-loop : tie.MeasureT-loop
+μ-loop far at p fill lanes long gap s y₀ k₀ y k = fill - k
+
+add-lanes : tie.Need-add-lanes Inv-loop μ-loop
+add-lanes c = search needs
+
+mul-lanes : tie.Need-mul-lanes Inv-loop μ-loop
+mul-lanes c = search needs
+
+hash-each-requires : tie.Need-hash-each-requires Inv-loop μ-loop
+hash-each-requires c κs =
+    let s = c .before .before in
+    let p = s .pre in
+    let shaped = p .1 in (
+      lanes-few (s .args .fill) (p .0),
+      shaped .some,
+      shaped .blocks,
+      omega (arith, shaped .few, p .2),
+      shaped .gaps,
+      record { fits = λ i h. p .3 .fits i (omega (arith, p .0)) },
+    )
+
+loop-holds : tie.Need-loop-holds Inv-loop μ-loop
+loop-holds c =
+    let s = c .before .before .before in
+    let a = s .args in
+    (search needs, hashes-none (a .p .now) (a .f .long) (a .far .now) (a .f .gap) (a .at .now) (a .x) (search needs))
+
+digest-of-requires : tie.Need-digest-of-requires Inv-loop μ-loop
+digest-of-requires c κs = search needs
+
+xor32-requires : tie.Need-xor32-requires Inv-loop μ-loop
+xor32-requires c κs = search needs
+
+add-k : tie.Need-add-k Inv-loop μ-loop
+add-k c = search needs
+
+loop-less : tie.Need-loop-less Inv-loop μ-loop
+loop-less c = search needs
+
+loop-again : tie.Need-loop-again Inv-loop μ-loop
+loop-again c =
+    let t = c .before .before .before in
+    let l = t .before .loop in
+    let s = t .before .before .before .before .before in
+    let a = s .args in
+    let below = t .before .before .hash-each .ensures (l .k) (omega (arith, t .loop-test .taken)) in (
+      search needs,
+      hashes-turn (a .p .now) (a .f .long) (a .far .now) (a .f .gap) (a .at .now) _ _ _ _ _ (l .k) (l .inv .1) below (c .before .digest-of .ensures) (c .xor32 .ensures),
+    )
+
+returns : tie.Need-returns Inv-loop μ-loop
+returns c =
+    let l = c .before .loop in
+    hashes-done _ _ _ _ _ _ _ (l .k) _ (l .inv .0) (c .loop-test .left) (l .inv .1)
+
+pub with-hashes-spec : {M : Type 1} → statement M
+with-hashes-spec =
+    tie.close
+    (tie.spec
+    Inv-loop
+    μ-loop
+    add-lanes
+    mul-lanes
+    hash-each-requires
+    loop-holds
+    digest-of-requires
+    xor32-requires
+    add-k
+    loop-less
+    loop-again
+    returns)

@@ -1,0 +1,27 @@
+/* How a call goes to the functions of an implementation: one dispatch, which differs only in what stands before and behind their names. */
+#ifndef RUN_H
+#define RUN_H
+
+/* A buffer as C passes it. */
+#define LENT(role) call->lent[role].bytes, call->lent[role].length
+
+#define RUN(before, behind)                                                                                                    \
+    switch (call->kind) {                                                                                                      \
+    case SET_UP:                                                                                                               \
+        return before##_set_up##behind(LENT(MASTER), LENT(ID), call->B, call->d, call->r, call->t, LENT(BLOCKS), LENT(CARD),   \
+                                       LENT(TABLE));                                                                           \
+    case UPDATE:                                                                                                               \
+        return before##_update##behind(LENT(MASTER), LENT(CARD), LENT(TABLE), call->m, LENT(OLD), LENT(NEW));                  \
+    case DELETE:                                                                                                               \
+        return before##_delete##behind(LENT(MASTER), LENT(CARD), LENT(TABLE), call->m, LENT(OLD));                             \
+    case APPEND:                                                                                                               \
+        return before##_append##behind(LENT(MASTER), LENT(CARD), LENT(TABLE), LENT(NEW));                                      \
+    case DRAW:                                                                                                                 \
+        return before##_draw##behind(LENT(MASTER), LENT(CARD), LENT(MESSAGE));                                                 \
+    case JUDGE:                                                                                                                \
+        return before##_judge##behind(LENT(MASTER), LENT(CARD), LENT(REPLY));                                                  \
+    default:                                                                                                                   \
+        return before##_prove##behind(LENT(MESSAGE), LENT(BLOCKS), LENT(TABLE), LENT(REPLY));                                  \
+    }
+
+#endif

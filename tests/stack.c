@@ -1,0 +1,59 @@
+/* See tests.h. A stack is painted, a call runs on it in a thread of its own, and where the paint is left the call has not been. */
+#define _XOPEN_SOURCE 700
+#include "tests.h"
+
+#include "files.h"
+#include "groups.h"
+
+#include <pthread.h>
+#include <stdlib.h>
+#include <string.h>
+
+enum { STACK = 1 << 20, ALIGNED = 4096, PAINT = 0xA5, MOST = 64 * 1024 };
+
+static void *run(void *call)
+{
+    if (call)
+        call_library(call);
+    return NULL;
+}
+
+/* The bytes of stack that a thread with this call needs; none is a thread that does nothing. */
+static size_t stack_of(struct call *call)
+{
+    pthread_attr_t how;
+    pthread_t thread;
+    void *room = NULL;
+    size_t left = 0;
+    int made = posix_memalign(&room, ALIGNED, STACK) == 0 && memset(room, PAINT, STACK) && pthread_attr_init(&how) == 0 &&
+               pthread_attr_setstack(&how, room, STACK) == 0 && pthread_create(&thread, &how, run, call) == 0;
+    expect(made && pthread_join(thread, NULL) == 0, "a thread with a stack of its own");
+    while (left < STACK && ((uint8_t *)room)[left] == PAINT)
+        left++;
+    free(room);
+    return STACK - left;
+}
+
+/* Expects the call to need less stack than the header says, beside what a bare thread needs; frees it. */
+static void expect_small(struct call call)
+{
+    size_t needs = stack_of(&call) - stack_of(NULL);
+    expect(needs < MOST, "%s: less than %d bytes of stack, not %zu", call_name(call.kind), MOST, needs);
+    call_free(&call);
+}
+
+void test_stack(void)
+{
+    group_begin("each call needs less than 64 KB of stack");
+    struct file file = file_set_up(512, 64, 64, 2);
+    expect_small(file_set_up_call(512, 64, 64, 2));
+    expect_small(file_call(&file, UPDATE));
+    expect_small(file_call(&file, DELETE));
+    expect_small(file_call(&file, APPEND));
+    expect_small(file_call(&file, DRAW));
+    file_do(&file, DRAW);
+    expect_small(file_call(&file, PROVE));
+    expect_small(file_call(&file, JUDGE));
+    file_end(&file);
+    group_end();
+}
