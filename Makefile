@@ -1,4 +1,4 @@
-# make week               one file's week on real files, told step by step: examples/week.c
+# make week               one file's week on real files, and a month in one load, told step by step: examples/
 # make lib                the archive and its header in target/legbaro: code for plain x86-64, with AVX2 and with AVX-512, and a choice between them
 # make lib CPU=NAME       the archive with one code alone, in target/legbaro-NAME; NAME is x86-64, avx2 or avx512
 #                         CPU=NAME goes with week, install and compare too
@@ -19,15 +19,15 @@ LIB := target/legbaro$(CPU:%=-%)
 OUT := target/c$(CPU:%=-%)
 COMPILE = $(CC) -std=c99 -pedantic -Wall -Wextra $(CFLAGS) -I$(LIB)
 LINK = -L$(LIB) -llegbaro
-SHARED := $(addprefix tests/,second.c book.c calls.c files.c buffers.c chance.c groups.c)
+SHARED := $(wildcard tests/second_*.c) $(addprefix tests/,book.c calls.c files.c buffers.c chance.c groups.c)
 
 week: $(OUT)/week
 	@$(OUT)/week
 
-$(OUT)/week: examples/week.c $(LIB)/liblegbaro.a $(LIB)/legbaro.h
+$(OUT)/week: $(wildcard examples/*.c examples/*.h) $(LIB)/liblegbaro.a $(LIB)/legbaro.h
 	@tools/needs cc
 	@mkdir -p $(OUT)
-	$(COMPILE) $< -o $@ $(LINK)
+	$(COMPILE) $(filter %.c,$^) -o $@ $(LINK)
 
 lib: $(LIB)/liblegbaro.a $(LIB)/legbaro.h
 	@echo "$(LIB)/liblegbaro.a: $$(wc -c < $(LIB)/liblegbaro.a) bytes"

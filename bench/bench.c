@@ -1,7 +1,7 @@
 /*
- * Times set-up, proof and update by each code of the archive and by the second implementation over libcrypto, and prints tables that can be
- * pasted into docs/PERFORMANCE.md. What each code writes is compared with the second implementation first. A code that the processor can't
- * run is left out.
+ * Times set-up, proof, update and load by each code of the archive and by the second implementation over libcrypto, and a load beside the
+ * set-up or the appends in whose place it stands; prints tables that can be pasted into docs/PERFORMANCE.md. What each code writes is compared
+ * with the second implementation first. A code that the processor can't run is left out.
  *
  * libcrypto uses the processor's SHA instructions where it has them; a helper shows what it does without them. In each row all alternate, and
  * the best of each counts.
@@ -14,31 +14,26 @@
 #include "files.h"
 #include "groups.h"
 #include "helper.h"
+#include "loads.h"
 #include "second.h"
+#include "times.h"
 
 #include <openssl/crypto.h>
 #include <stdio.h>
-#include <stdlib.h>
 #include <string.h>
-#include <time.h>
 
-enum { SEED = 20261115, TURNS = 40, SHORTEST_NS = 4000000, REST_NS = 2000000 };
+enum { SEED = 20261115 };
 
 /* ---- What is timed ---- */
 
-/* The ways to run a call, in the order in which they take turns. Without SHA instructions it is the helper that runs. */
-enum { LIBCRYPTO, PLAIN, AVX2, AVX512, CHOSEN, WITHOUT_SHA, WAYS };
-
-static uint64_t (*const runs[WAYS])(struct call *) = {call_second, call_plain, call_avx2, call_avx512, call_library, NULL};
-
-/* t tokens for set-up and update, n blocks for a proof. */
+/* t tokens for a set-up or a change; n blocks for a proof, and n new blocks for a load. */
 struct measure {
     const char *title; /* begins a table */
     enum kind kind;
     uint64_t B, d, r, t, n;
 };
 
-enum { T_SET_UP = 4, T_UPDATE = 64 };
+enum { T_SET_UP = 4, T_UPDATE = 64, T_LOAD = 4 };
 
 /* Set-up and proof at one size. */
 #define BOTH(title, B, d, r) {title, SET_UP, B, d, r, T_SET_UP, d}, {NULL, PROVE, B, d, r, 1, d}
@@ -56,6 +51,12 @@ static const struct measure measures[] = {
     {NULL, UPDATE, 1024, 4096, 64, T_UPDATE, 4096},
     {NULL, UPDATE, 4096, 4096, 64, T_UPDATE, 4096},
     {NULL, UPDATE, 4096, 4096, 460, T_UPDATE, 4096},
+    {"Load of n blocks", LOAD, 64, 4096, 64, T_LOAD, 16},
+    {NULL, LOAD, 64, 4096, 64, T_LOAD, 63},
+    {NULL, LOAD, 64, 4096, 64, T_LOAD, 64},
+    {NULL, LOAD, 64, 4096, 64, T_LOAD, 256},
+    {NULL, LOAD, 1024, 5000, 460, T_LOAD, 459},
+    {NULL, LOAD, 1024, 5000, 460, T_LOAD, 460},
     {"Growth with t, the tokens", SET_UP, 64, 4096, 64, 4, 4096},
     {NULL, SET_UP, 64, 4096, 64, 64, 4096},
     {NULL, UPDATE, 64, 4096, 64, 16, 4096},
@@ -76,7 +77,7 @@ enum { MEASURES = sizeof measures / sizeof *measures };
 /* A proof of n blocks, which need not be those of the file that the message is drawn from. */
 static struct call proof_call(const struct measure *m)
 {
-    struct file file = file_set_up(m->B, m->d, m->r, m->t);
+    struct file file = file_set_up(m->B, m->d, m->r, m->t, m->d);
     buffer_put_number(&file.card, LEGBARO_CARD_BLOCKS, 4, m->n);
     struct call draw = file_call(&file, DRAW);
     call_expect(&draw, LEGBARO_OK, "accepted");
@@ -91,44 +92,25 @@ static struct call proof_call(const struct measure *m)
     return proof;
 }
 
-static struct call update_call(const struct measure *m)
+/* An update, or a load of n blocks. */
+static struct call change_call(const struct measure *m)
 {
-    struct file file = file_set_up(m->B, m->d, m->r, m->t);
-    struct call update = file_call(&file, UPDATE);
+    struct file file = file_set_up(m->B, m->d, m->r, m->t, m->d);
+    struct call change = m->kind == LOAD ? file_load_call(&file, m->n) : file_call(&file, UPDATE);
     file_end(&file);
-    return update;
+    return change;
 }
 
-/* The call that is timed. It is accepted again and again on its own buffers, by any way: an update takes the bytes handed over. */
+/* The call that is timed. It is accepted again and again on its own buffers, by any way: an update takes the bytes handed over, and a load
+ * adds its blocks once more. */
 static struct call measured_call(const struct measure *m)
 {
     if (m->kind == SET_UP)
-        return file_set_up_call(m->B, m->d, m->r, m->t);
-    return m->kind == UPDATE ? update_call(m) : proof_call(m);
+        return file_set_up_call(m->B, m->d, m->r, m->t, m->d);
+    return m->kind == PROVE ? proof_call(m) : change_call(m);
 }
 
 /* ---- Time ---- */
-
-static double now(void)
-{
-    struct timespec t;
-    clock_gettime(CLOCK_MONOTONIC, &t);
-    return 1e9 * (double)t.tv_sec + (double)t.tv_nsec;
-}
-
-/* Nanoseconds for one of so many calls. Updates go through all blocks. */
-static double timed(uint64_t (*run)(struct call *), struct call *call, uint64_t n, unsigned calls)
-{
-    double start = now();
-    for (unsigned i = 0; i < calls; i++) {
-        call->m = 1 + i * UINT64_C(997) % n;
-        if (run(call) != LEGBARO_OK) {
-            fprintf(stderr, "bench: %s was not accepted\n", call_name(call->kind));
-            exit(1);
-        }
-    }
-    return (now() - start) / calls;
-}
 
 /* What the helper answers. */
 static double helped(int row, unsigned calls)
@@ -143,11 +125,8 @@ static double helped(int row, unsigned calls)
     return timed(call_second, &call, measures[row].n, calls);
 }
 
-/* The time of a way, behind a rest: a processor may run slower for a while after the widest code. */
 static double timed_by(int way, struct call *call, int row, unsigned calls)
 {
-    for (double start = now(); now() - start < REST_NS;)
-        ;
     return way == WITHOUT_SHA ? helper_timed(row, calls) : timed(runs[way], call, measures[row].n, calls);
 }
 
@@ -155,15 +134,6 @@ static double timed_by(int way, struct call *call, int row, unsigned calls)
 struct times {
     double best[WAYS];
 };
-
-/* Compares what a code writes with what the second implementation writes. */
-static void compare(uint64_t (*run)(struct call *), const struct call *call)
-{
-    struct call copy = call_copy(call);
-    copy.m = 1;
-    expect(call_compare_by(run, &copy) == LEGBARO_OK, "%s: accepted", call_name(call->kind));
-    call_free(&copy);
-}
 
 static struct times measure(int row)
 {
@@ -178,14 +148,12 @@ static struct times measure(int row)
         if (code)
             compare(runs[way], &call);
         t.best[way] = timed_by(way, &call, row, 1);
-        calls[way] = 1 + (unsigned)(SHORTEST_NS / t.best[way]);
+        calls[way] = calls_for(t.best[way]);
     }
     for (int turn = 0; turn < TURNS; turn++)
         for (int way = 0; way < WAYS; way++)
-            if (t.best[way] > 0) {
-                double time = timed_by(way, &call, row, calls[way]);
-                t.best[way] = time < t.best[way] ? time : t.best[way];
-            }
+            if (t.best[way] > 0)
+                t.best[way] = lesser(t.best[way], timed_by(way, &call, row, calls[way]));
     call_free(&call);
     return t;
 }
@@ -238,6 +206,7 @@ static void print_tables(const char *program)
     puts(OpenSSL_version(OPENSSL_VERSION));
     for (int row = 0; row < MEASURES; row++)
         print_row(&measures[row], measure(row));
+    print_loads();
     putchar('\n');
     group_end();
     helper_end();
@@ -257,7 +226,7 @@ static void print_whole(const char *way, uint64_t (*run)(struct call *), const s
 
 static void print_headline(void)
 {
-    struct call call = file_set_up_call(4096, 4096, 512, 11680), before = {.kind = SET_UP};
+    struct call call = file_set_up_call(4096, 4096, 512, 11680, 4096), before = {.kind = SET_UP};
     group_begin("the great set-up writes the same each way");
     print_processor();
     puts("set-up of 11680 tokens, r = 512, B = 4096, d = 4096");

@@ -3,14 +3,19 @@
  *
  * The owner keeps a 32-byte master key and a 43-byte card. The host keeps the file's blocks and a table of sealed tokens.
  *
- *   set up    the owner cuts the file into d blocks and gets a card and a table; blocks and table go to the host
- *   change    the owner fetches the table (and the block that changes), updates, deletes or appends, and sends the table back
+ *   set up    the owner cuts the file into n blocks and gets a card and a table; blocks and table go to the host
+ *   change    the owner fetches the table (and the block that changes), updates, deletes, appends or loads, and sends the table back
  *   audit     the owner draws a message and sends it; the host proves, with a reply; the owner judges the reply
  *
  * A block has B bytes. Blocks are numbered from 1 and lie in d rows: block m in row ((m-1) mod d) + 1, column (m-1) div d.
  * A token draws r of the d rows, and covers every block in them. Each audit spends one of the t tokens.
  *
- * RESULT. Every call returns code + 256 * token. The code is 0 for an accepted call, and token is 0 except with LEGBARO_BAD_RECORD.
+ * The rows are planned: d is fixed at set-up, and n, the number of blocks, may be less than d, d or more. With fewer blocks than rows the
+ * rows beyond n are empty and add nothing to a token, so that a token covers those of its r rows that have a block. Later blocks fill
+ * the rows, and then begin a new column. legbaro_positions tells how many positions a file with few blocks and many planned rows needs.
+ *
+ * RESULT. Every call returns code + 256 * number. The code is 0 for an accepted call. The number is 0 but in two cases: with
+ * LEGBARO_BAD_RECORD it is a token, and from legbaro_positions, with code 0, it is what was asked for.
  * A call that is turned away (any code but 0 and LEGBARO_REJECTED) leaves every buffer as it was. The codes of each call stand
  * below in the order in which they are tested: of several faults the first is told.
  *
@@ -49,31 +54,34 @@ extern "C" {
 #define LEGBARO_MESSAGE_BYTES 91
 #define LEGBARO_REPLY_BYTES 110
 
-/* Limits. The least of every number is 1, but a file has at least as many blocks as rows, and the counter starts at 0. */
+/* Limits. The least of every number is 1, but the counter starts at 0. */
 #define LEGBARO_MOST_BLOCK_BYTES 4096 /* B */
 #define LEGBARO_MOST_ROWS 1048576     /* d */
 #define LEGBARO_MOST_POSITIONS 512    /* r, which is no more than d either */
 #define LEGBARO_MOST_TOKENS 65536     /* t */
-#define LEGBARO_MOST_BLOCKS 16777216  /* n */
+#define LEGBARO_MOST_BLOCKS 16777216  /* n, which is less than d, d or more */
 #define LEGBARO_MOST_COUNTER 4294967295u
 
 /* Codes. */
 #define LEGBARO_OK 0
-#define LEGBARO_WRONG_LENGTH 1     /* a buffer has another length than the call asks */
-#define LEGBARO_WRONG_HEADER 2     /* the length field or the version of the card or the message is wrong */
-#define LEGBARO_OUT_OF_LIMITS 3    /* a field of the card or the message, or a number lent, is outside its limits */
-#define LEGBARO_NO_SUCH_BLOCK 4    /* the block number is 0 or above n */
-#define LEGBARO_FILE_FULL 5        /* append to a file with LEGBARO_MOST_BLOCKS */
-#define LEGBARO_NO_TOKEN_LEFT 6    /* draw after the last token */
-#define LEGBARO_BAD_RECORD 7       /* an unused record does not open; its token number comes with the code */
-#define LEGBARO_TOKEN_OPEN 8       /* change or draw while a drawn token is not judged */
-#define LEGBARO_NONE_OPEN 9        /* judge while no token is drawn */
-#define LEGBARO_COUNTER_AT_MOST 10 /* change with the counter at LEGBARO_MOST_COUNTER */
-#define LEGBARO_REJECTED 11        /* judge: the reply does not prove possession */
+#define LEGBARO_WRONG_LENGTH 1        /* a buffer has another length than the call asks */
+#define LEGBARO_WRONG_HEADER 2        /* the length field or the version of the card or the message is wrong */
+#define LEGBARO_OUT_OF_LIMITS 3       /* a field of the card or the message, or a number lent, is outside its limits */
+#define LEGBARO_NO_SUCH_BLOCK 4       /* the block number is 0 or above n */
+#define LEGBARO_FILE_FULL 5           /* append or load that would make n more than LEGBARO_MOST_BLOCKS */
+#define LEGBARO_NO_TOKEN_LEFT 6       /* draw after the last token */
+#define LEGBARO_BAD_RECORD 7          /* an unused record does not open; its token number comes with the code */
+#define LEGBARO_TOKEN_OPEN 8          /* change or draw while a drawn token is not judged */
+#define LEGBARO_NONE_OPEN 9           /* judge while no token is drawn */
+#define LEGBARO_COUNTER_AT_MOST 10    /* change with the counter at LEGBARO_MOST_COUNTER */
+#define LEGBARO_REJECTED 11           /* judge: the reply does not prove possession */
+#define LEGBARO_NOT_WHOLE_BLOCKS 12   /* load of no bytes, or of a length that B does not divide */
+#define LEGBARO_TOO_MANY_POSITIONS 13 /* the positions asked for are more than LEGBARO_MOST_POSITIONS */
 
-/* The two parts of a result. */
+/* The two parts of a result: the code, and the number, which is a token with LEGBARO_BAD_RECORD. */
 #define LEGBARO_CODE(result) ((result) % 256)
-#define LEGBARO_TOKEN(result) ((result) / 256)
+#define LEGBARO_NUMBER(result) ((result) / 256)
+#define LEGBARO_TOKEN(result) LEGBARO_NUMBER(result)
 
 /*
  * A card, for who wants to look into one: big-endian numbers, each at its offset.
@@ -95,15 +103,18 @@ extern "C" {
  *   master     LEGBARO_MASTER_BYTES
  *   id         LEGBARO_ID_BYTES, the owner's name for the file
  *   block_bytes, rows, positions, tokens   B, d, r and t; fixed for the life of the file
- *   blocks     rows * block_bytes: the first blocks, one for each row, end to end
- *   card       LEGBARO_CARD_BYTES, written: n = d, counter 0, next 1, none open
+ *   blocks_count   n: the number of blocks there are now, from 1
+ *   blocks     blocks_count * block_bytes: the first blocks, end to end
+ *   card       LEGBARO_CARD_BYTES, written: n, counter 0, next 1, none open
  *   table      tokens * LEGBARO_RECORD_BYTES, written
  *
+ * rows is what the file is planned for. blocks_count may be less, equal or more: rows beyond it are empty, and blocks beyond rows lie in
+ * further columns. With fewer blocks than rows take the positions from legbaro_positions.
  * Codes: 1 (master, id, card), 3, 1 (blocks, table).
  */
 uint64_t legbaro_set_up(const uint8_t *master, size_t master_length,
                         const uint8_t *id, size_t id_length,
-                        uint64_t block_bytes, uint64_t rows, uint64_t positions, uint64_t tokens,
+                        uint64_t block_bytes, uint64_t rows, uint64_t positions, uint64_t tokens, uint64_t blocks_count,
                         const uint8_t *blocks, size_t blocks_length,
                         uint8_t *card, size_t card_length,
                         uint8_t *table, size_t table_length);
@@ -162,6 +173,27 @@ uint64_t legbaro_append(const uint8_t *master, size_t master_length,
                         const uint8_t *new_block, size_t new_block_length);
 
 /*
+ * Load, the owner's: one or more new blocks come behind the last block, under one step of the counter.
+ *
+ *   master     LEGBARO_MASTER_BYTES
+ *   card       LEGBARO_CARD_BYTES, written as in an update; n rises by the number of blocks too
+ *   table      t * LEGBARO_RECORD_BYTES, written as in an update
+ *   blocks     the new blocks, end to end: B bytes for each, and at least one
+ *
+ * The tokens in the table are then those that the same blocks would leave if they were appended one by one; counter and sealing alone
+ * differ. A load of one block writes what an append of it writes.
+ * Append sends a block as soon as it is there, so that the next audit covers it. Load is for blocks that were held back: the table is
+ * fetched, sealed again and sent back once and not once for each block, and a thousand blocks take a small part of the time that a
+ * thousand appends take. All of a load is taken or none of it.
+ *
+ * Codes: 1 (master, card), 2, 3, 1 (table), 8, 12, 5, 10, 7 (as in an update). The length of blocks is told by 12, never by 1.
+ */
+uint64_t legbaro_load(const uint8_t *master, size_t master_length,
+                      uint8_t *card, size_t card_length,
+                      uint8_t *table, size_t table_length,
+                      const uint8_t *blocks, size_t blocks_length);
+
+/*
  * Draw, the owner's: opens the next token and writes the message that challenges the host for it.
  *
  *   master     LEGBARO_MASTER_BYTES
@@ -202,6 +234,21 @@ uint64_t legbaro_prove(const uint8_t *message, size_t message_length,
                        const uint8_t *blocks, size_t blocks_length,
                        const uint8_t *table, size_t table_length,
                        uint8_t *reply, size_t reply_length);
+
+/*
+ * Positions, for who plans a file: how many positions r to set up with, where the file has fewer blocks than rows.
+ *
+ *   positions  how many of the blocks present an audit is to look at: 1 to LEGBARO_MOST_POSITIONS, and no more than present
+ *   planned    the rows d: 1 to LEGBARO_MOST_ROWS
+ *   present    the number of blocks that the file has at set-up: 1 to planned
+ *
+ * Returns code 0 and the number positions * planned / present, rounded up. At first the rows 1 to present alone have a block. With this
+ * many positions a token draws at least `positions` of them on the average, and an audit looks at each block with at least the chance
+ * that it would have if `positions` of `present` rows were drawn. As loads and appends fill the rows, that chance stays: it is the number
+ * returned divided by planned.
+ * Codes: 3, 13. With 13 an audit can't look at so many: ask for fewer positions, plan fewer rows, or set up with more blocks.
+ */
+uint64_t legbaro_positions(uint64_t positions, uint64_t planned, uint64_t present);
 
 #ifdef __cplusplus
 }

@@ -19,7 +19,7 @@ static uint64_t with_bit(const struct file *file, enum kind kind, enum role role
 /* Every bit of a card, in every call that reads one. `judging` has a token drawn, `changing` none. */
 static void card_bits(const struct file *changing, const struct file *judging)
 {
-    static const enum kind kinds[] = {UPDATE, DELETE, APPEND, DRAW, JUDGE};
+    static const enum kind kinds[] = {UPDATE, DELETE, APPEND, LOAD, DRAW, JUDGE};
     group_begin("every bit of a card, in every call that reads it");
     for (size_t k = 0; k < sizeof kinds / sizeof *kinds; k++)
         for (size_t bit = 0; bit < 8 * LEGBARO_CARD_BYTES; bit++)
@@ -77,7 +77,7 @@ static void master_bits(const struct file *changing, const struct file *judging)
 void test_bits(void)
 {
     group_begin("files for the bits");
-    struct file changing = file_set_up(B, D, R, T), judging = file_set_up(B, D, R, T);
+    struct file changing = file_set_up(B, D, R, T, D), judging = file_set_up(B, D, R, T, D);
     file_do(&changing, DRAW);
     file_do(&changing, JUDGE);
     file_do(&changing, APPEND);

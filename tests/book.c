@@ -25,7 +25,7 @@ static size_t table_bytes(const struct book *book)
 struct book book_start(const struct call *set_up)
 {
     struct book book = {
-        .numbers = {.B = set_up->B, .d = set_up->d, .r = set_up->r, .t = set_up->t, .n = set_up->d, .ctr = 0, .next = 1, .open = 0}};
+        .numbers = {.B = set_up->B, .d = set_up->d, .r = set_up->r, .t = set_up->t, .n = set_up->n, .ctr = 0, .next = 1, .open = 0}};
     memcpy(book.key, set_up->lent[MASTER].bytes, sizeof book.key);
     memcpy(book.numbers.id, set_up->lent[ID].bytes, sizeof book.numbers.id);
     book.blocks = resized(NULL, set_up->lent[BLOCKS].length);
@@ -40,9 +40,15 @@ void book_end(struct book *book)
     free(book->spent);
 }
 
-const uint8_t *book_block(const struct book *book, uint64_t m)
+/* Where block m lies. */
+static uint8_t *place_of(const struct book *book, uint64_t m)
 {
     return book->blocks + (m - 1) * book->numbers.B;
+}
+
+const uint8_t *book_block(const struct book *book, uint64_t m)
+{
+    return place_of(book, m);
 }
 
 void book_card(const struct book *book, uint8_t *card)
@@ -57,10 +63,20 @@ void book_table(const struct book *book, uint8_t *table)
     second_fresh_records(book->key, &book->numbers, book->blocks, book->numbers.next, book->numbers.t, table);
 }
 
+/* The edit that a change makes. */
+static struct edit edit_of(const struct call *call)
+{
+    static const enum edit_kind kinds[] = {
+        [UPDATE] = EDIT_UPDATE, [DELETE] = EDIT_DELETE, [APPEND] = EDIT_APPEND, [LOAD] = EDIT_LOAD};
+    const struct buffer *added = &call->lent[call->kind == LOAD ? BLOCKS : NEW], *old = &call->lent[OLD];
+    struct edit edit = {kinds[call->kind], call->m, old->bytes, old->length, added->bytes, added->length};
+    return edit;
+}
+
 /* "Turned away", read with the book's card and table and the call's other arguments; "7 never comes up". */
 static uint64_t turned_away(const struct book *book, const struct call *call)
 {
-    static const enum edit edits[] = {[UPDATE] = EDIT_UPDATE, [DELETE] = EDIT_DELETE, [APPEND] = EDIT_APPEND};
+    struct edit edit;
     uint8_t card[LEGBARO_CARD_BYTES];
     size_t master_length = call->lent[MASTER].length;
     book_card(book, card);
@@ -70,26 +86,32 @@ static uint64_t turned_away(const struct book *book, const struct call *call)
     case JUDGE:
         return second_judge_fault(master_length, card, sizeof card);
     default:
-        return second_change_fault(edits[call->kind], master_length, card, sizeof card, table_bytes(book), call->m,
-                                   call->lent[OLD].length, call->lent[NEW].length);
+        edit = edit_of(call);
+        return second_change_fault(&edit, master_length, card, sizeof card, table_bytes(book));
     }
 }
 
-/* "Update puts the new block under its number, delete puts B zero bytes there, append puts the new block at the end. Each adds 1 to ctr" */
+/* Puts blocks at the end. */
+static void add_blocks(struct book *book, const struct buffer *added)
+{
+    size_t before = book->numbers.n * book->numbers.B;
+    book->blocks = resized(book->blocks, before + added->length);
+    memcpy(book->blocks + before, added->bytes, added->length);
+    book->numbers.n += added->length / book->numbers.B;
+}
+
+/* "Update puts the new block under its number, delete puts B zero bytes there, append puts the new block at the end. Each adds 1 to ctr";
+ * "Load appends one or more blocks under one counter step" */
 static void take_change(struct book *book, const struct call *call)
 {
-    struct card *numbers = &book->numbers;
-    uint64_t m = call->m;
-    if (call->kind == APPEND) {
-        m = ++numbers->n;
-        book->blocks = resized(book->blocks, numbers->n * numbers->B);
-    }
-    uint8_t *block = book->blocks + (m - 1) * numbers->B;
-    if (call->kind == DELETE)
-        memset(block, 0, numbers->B);
+    uint64_t B = book->numbers.B;
+    if (call->kind == UPDATE)
+        memcpy(place_of(book, call->m), call->lent[NEW].bytes, B);
+    else if (call->kind == DELETE)
+        memset(place_of(book, call->m), 0, B);
     else
-        memcpy(block, call->lent[NEW].bytes, numbers->B);
-    numbers->ctr++;
+        add_blocks(book, &call->lent[call->kind == LOAD ? BLOCKS : NEW]);
+    book->numbers.ctr++;
 }
 
 /* "Draw keeps fresh record next as spent, sets open to next, then adds 1 to next" */

@@ -17,14 +17,16 @@ static const struct {
     [UPDATE] = {"update", CHANGE | BIT(OLD) | BIT(NEW), BIT(CARD) | BIT(TABLE)},
     [DELETE] = {"delete", CHANGE | BIT(OLD), BIT(CARD) | BIT(TABLE)},
     [APPEND] = {"append", CHANGE | BIT(NEW), BIT(CARD) | BIT(TABLE)},
+    [LOAD] = {"load", CHANGE | BIT(BLOCKS), BIT(CARD) | BIT(TABLE)},
     [DRAW] = {"draw", BIT(MASTER) | BIT(CARD) | BIT(MESSAGE), BIT(CARD) | BIT(MESSAGE)},
     [JUDGE] = {"judge", BIT(MASTER) | BIT(CARD) | BIT(REPLY), BIT(CARD)},
     [PROVE] = {"prove", BIT(MESSAGE) | BIT(BLOCKS) | BIT(TABLE) | BIT(REPLY), BIT(REPLY)},
+    [POSITIONS] = {"positions", 0, 0},
 };
 
 static const char *const roles[ROLES] = {"master", "id", "blocks", "card", "table", "old block", "new block", "message", "reply"};
 
-static unsigned long counts[KINDS][LEGBARO_REJECTED + 1];
+static unsigned long counts[KINDS][LAST_CODE + 1];
 
 const char *call_name(enum kind kind)
 {
@@ -74,8 +76,8 @@ uint64_t call_compare_by(uint64_t (*run)(struct call *), struct call *call)
     struct call before = call_copy(call), other = call_copy(call);
     uint64_t number = run(call);
     uint64_t expected = call_second(&other);
-    int refused = number != LEGBARO_OK && number != LEGBARO_REJECTED;
-    if (LEGBARO_CODE(number) <= LEGBARO_REJECTED)
+    int refused = LEGBARO_CODE(number) != LEGBARO_OK && LEGBARO_CODE(number) != LEGBARO_REJECTED;
+    if (LEGBARO_CODE(number) <= LAST_CODE)
         counts[call->kind][LEGBARO_CODE(number)]++;
     expect(number == expected, "%s: number %llu, not %llu", kinds[call->kind].name, (unsigned long long)expected,
            (unsigned long long)number);

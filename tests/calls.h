@@ -5,14 +5,17 @@
 #include "buffers.h"
 #include "legbaro.h"
 
-enum kind { SET_UP, UPDATE, DELETE, APPEND, DRAW, JUDGE, PROVE, KINDS };
+enum kind { SET_UP, UPDATE, DELETE, APPEND, LOAD, DRAW, JUDGE, PROVE, POSITIONS, KINDS };
+
+/* The highest code of any call. */
+enum { LAST_CODE = LEGBARO_TOO_MANY_POSITIONS };
 
 enum role { MASTER, ID, BLOCKS, CARD, TABLE, OLD, NEW, MESSAGE, REPLY, ROLES };
 
 struct call {
     enum kind kind;
-    uint64_t B, d, r, t; /* of a set-up */
-    uint64_t m;          /* the block number of an update or a deletion */
+    uint64_t B, d, r, t, n; /* of a set-up; positions takes r, d and n */
+    uint64_t m;             /* the block number of an update or a deletion */
     struct buffer lent[ROLES];
 };
 

@@ -14,16 +14,18 @@ static const unsigned codes[KINDS] = {
     [UPDATE] = CHANGES | CODE(LEGBARO_NO_SUCH_BLOCK),
     [DELETE] = CHANGES | CODE(LEGBARO_NO_SUCH_BLOCK),
     [APPEND] = CHANGES | CODE(LEGBARO_FILE_FULL),
+    [LOAD] = CHANGES | CODE(LEGBARO_NOT_WHOLE_BLOCKS) | CODE(LEGBARO_FILE_FULL),
     [DRAW] = READS | CODE(LEGBARO_TOKEN_OPEN) | CODE(LEGBARO_NO_TOKEN_LEFT),
     [JUDGE] = READS | CODE(LEGBARO_NONE_OPEN) | CODE(LEGBARO_REJECTED),
     [PROVE] = READS,
+    [POSITIONS] = CODE(LEGBARO_OK) | CODE(LEGBARO_OUT_OF_LIMITS) | CODE(LEGBARO_TOO_MANY_POSITIONS),
 };
 
 void test_codes(void)
 {
     group_begin("each call has returned each of its codes, and no other");
     for (int kind = 0; kind < KINDS; kind++)
-        for (unsigned code = LEGBARO_OK; code <= LEGBARO_REJECTED; code++)
+        for (unsigned code = LEGBARO_OK; code <= LAST_CODE; code++)
             expect((call_count(kind, code) > 0) == ((codes[kind] & CODE(code)) != 0), "%s, code %u", call_name(kind), code);
     group_end();
 }

@@ -1,14 +1,29 @@
-/* Every fault alone, and every two faults in one call, in paper 01's order. */
+/* Every fault alone, and every two faults in one call, in the order of papers 01 and 02. */
 #include "tests.h"
 
 #include "files.h"
 #include "groups.h"
 
-/* The files below have these numbers, and NOW_N blocks where they are changed. */
-enum { B = 28, D = 5, R = 3, T = 3, NOW_N = D + 2 };
+/* The files below have these numbers, and NOW_N blocks where they are changed. A load has LOADED blocks. R × D / N is 3.75. */
+enum { B = 28, D = 5, R = 3, T = 3, N = 4, NOW_N = N + 3, LOADED = 3, POSITIONS_ANSWER = 4 };
 
-/* "Order: 1 for buffers of fixed size, 2, 3, 1 for sizes that follow from fields, then 8 or 9, 6, 4, 5, 10, 7", and the verdict last. */
-enum place { FIXED_SIZE, HEADER, LIMITS, SIZE, OPEN_OR_NOT, TOKENS_LEFT, BLOCK_NUMBER, FULL, COUNTER, RECORDS, VERDICT };
+/* "Order: 1 for buffers of fixed size, 2, 3, 1 for sizes that follow from fields, then 8 or 9, 6, 4, 5, 10, 7", and the verdict last; a
+ * load's 12 "just before 5"; the helper's 13 "after 3". */
+enum place {
+    FIXED_SIZE,
+    HEADER,
+    LIMITS,
+    POSITIONS_GIVEN,
+    SIZE,
+    OPEN_OR_NOT,
+    TOKENS_LEFT,
+    BLOCK_NUMBER,
+    WHOLE_BLOCKS,
+    FULL,
+    COUNTER,
+    RECORDS,
+    VERDICT
+};
 
 /* What a fault alters: the length of a buffer, which is named by its role, a number, a field of card or message, or record 2. */
 enum target {
@@ -16,6 +31,7 @@ enum target {
     NUMBER_D,
     NUMBER_R,
     NUMBER_T,
+    NUMBER_N,
     NUMBER_M,
     CARD_LENGTH,
     CARD_VERSION,
@@ -73,9 +89,10 @@ struct fault {
 };
 
 #define IN(kind) (1u << (kind))
-#define CHANGES (IN(UPDATE) | IN(DELETE) | IN(APPEND))
+#define CHANGES (IN(UPDATE) | IN(DELETE) | IN(APPEND) | IN(LOAD))
 #define READ_CARD (CHANGES | IN(DRAW) | IN(JUDGE))
 #define WITH_MASTER (IN(SET_UP) | READ_CARD)
+#define NUMBERS (IN(SET_UP) | IN(POSITIONS))
 
 /* Values with a meaning of their own: the token before next, whatever that is, for CARD_OPEN; and for the length of a buffer none,
  * one byte less, one byte more. */
@@ -90,15 +107,23 @@ static const struct fault faults[] = {
     {IN(SET_UP), LIMITS, NUMBER_B, 0},
     {IN(SET_UP), LIMITS, NUMBER_B, LEGBARO_MOST_BLOCK_BYTES + 1},
     {IN(SET_UP), LIMITS, NUMBER_B, UINT64_MAX},
-    {IN(SET_UP), LIMITS, NUMBER_D, 0},
-    {IN(SET_UP), LIMITS, NUMBER_D, LEGBARO_MOST_ROWS + 1},
-    {IN(SET_UP), LIMITS, NUMBER_D, UINT64_MAX},
-    {IN(SET_UP), LIMITS, NUMBER_R, 0},
-    {IN(SET_UP), LIMITS, NUMBER_R, D + 1},
-    {IN(SET_UP), LIMITS, NUMBER_R, LEGBARO_MOST_POSITIONS + 1},
+    {NUMBERS, LIMITS, NUMBER_D, 0},
+    {NUMBERS, LIMITS, NUMBER_D, LEGBARO_MOST_ROWS + 1},
+    {NUMBERS, LIMITS, NUMBER_D, UINT64_MAX},
+    {IN(POSITIONS), LIMITS, NUMBER_D, N - 1},
+    {IN(POSITIONS), POSITIONS_GIVEN, NUMBER_D, LEGBARO_MOST_ROWS},
+    {NUMBERS, LIMITS, NUMBER_R, 0},
+    {NUMBERS, LIMITS, NUMBER_R, D + 1},
+    {NUMBERS, LIMITS, NUMBER_R, LEGBARO_MOST_POSITIONS + 1},
+    {NUMBERS, LIMITS, NUMBER_R, UINT64_MAX},
+    {IN(POSITIONS), LIMITS, NUMBER_R, N + 1},
     {IN(SET_UP), LIMITS, NUMBER_T, 0},
     {IN(SET_UP), LIMITS, NUMBER_T, LEGBARO_MOST_TOKENS + 1},
     {IN(SET_UP), LIMITS, NUMBER_T, UINT64_MAX},
+    {NUMBERS, LIMITS, NUMBER_N, 0},
+    {NUMBERS, LIMITS, NUMBER_N, LEGBARO_MOST_BLOCKS + 1},
+    {NUMBERS, LIMITS, NUMBER_N, UINT64_MAX},
+    {IN(POSITIONS), LIMITS, NUMBER_N, LEGBARO_MOST_ROWS + 1},
     {IN(UPDATE) | IN(DELETE), BLOCK_NUMBER, NUMBER_M, 0},
     {IN(UPDATE) | IN(DELETE), BLOCK_NUMBER, NUMBER_M, NOW_N + 1},
     {IN(UPDATE) | IN(DELETE), BLOCK_NUMBER, NUMBER_M, UINT64_MAX},
@@ -116,9 +141,10 @@ static const struct fault faults[] = {
     {READ_CARD, LIMITS, CARD_R, LEGBARO_MOST_POSITIONS + 1},
     {READ_CARD, LIMITS, CARD_T, 0},
     {READ_CARD, LIMITS, CARD_T, LEGBARO_MOST_TOKENS + 1},
-    {READ_CARD, LIMITS, CARD_N, D - 1},
+    {READ_CARD, LIMITS, CARD_N, 0},
     {READ_CARD, LIMITS, CARD_N, LEGBARO_MOST_BLOCKS + 1},
-    {IN(APPEND), FULL, CARD_N, LEGBARO_MOST_BLOCKS},
+    {IN(APPEND) | IN(LOAD), FULL, CARD_N, LEGBARO_MOST_BLOCKS},
+    {IN(LOAD), FULL, CARD_N, LEGBARO_MOST_BLOCKS - LOADED + 1},
     {READ_CARD, LIMITS, CARD_CTR, UINT64_C(1) + LEGBARO_MOST_COUNTER},
     {READ_CARD, LIMITS, CARD_CTR, UINT64_MAX},
     {CHANGES, COUNTER, CARD_CTR, LEGBARO_MOST_COUNTER},
@@ -141,7 +167,7 @@ static const struct fault faults[] = {
     {IN(PROVE), LIMITS, MESSAGE_D, LEGBARO_MOST_ROWS + 1},
     {IN(PROVE), LIMITS, MESSAGE_R, 0},
     {IN(PROVE), LIMITS, MESSAGE_R, D + 1},
-    {IN(PROVE), LIMITS, MESSAGE_N, D - 1},
+    {IN(PROVE), LIMITS, MESSAGE_N, 0},
     {IN(PROVE), LIMITS, MESSAGE_N, LEGBARO_MOST_BLOCKS + 1},
     {CHANGES, RECORDS, TAG_OF_RECORD_2, 0},
     WRONG_LENGTH(WITH_MASTER, FIXED_SIZE, MASTER),
@@ -154,6 +180,7 @@ static const struct fault faults[] = {
     TOO_SHORT(IN(PROVE), SIZE, TABLE),
     WRONG_LENGTH(IN(UPDATE) | IN(DELETE), SIZE, OLD),
     WRONG_LENGTH(IN(UPDATE) | IN(APPEND), SIZE, NEW),
+    WRONG_LENGTH(IN(LOAD), WHOLE_BLOCKS, BLOCKS),
     WRONG_LENGTH(IN(JUDGE), VERDICT, REPLY),
 };
 
@@ -165,9 +192,9 @@ static struct file changing, judging;
 
 static struct file prepared(void)
 {
-    struct file file = file_set_up(B, D, R, T);
+    struct file file = file_set_up(B, D, R, T, N);
     file_do(&file, APPEND);
-    file_do(&file, APPEND);
+    file_load(&file, 2);
     file_do(&file, DRAW);
     file_do(&file, JUDGE);
     return file;
@@ -177,7 +204,11 @@ static struct file prepared(void)
 static struct call faultless(enum kind kind)
 {
     if (kind == SET_UP)
-        return file_set_up_call(B, D, R, T);
+        return file_set_up_call(B, D, R, T, N);
+    if (kind == POSITIONS)
+        return (struct call){.kind = POSITIONS, .r = R, .d = D, .n = N};
+    if (kind == LOAD)
+        return file_load_call(&changing, LOADED);
     struct call call = file_call(kind == JUDGE || kind == PROVE ? &judging : &changing, kind);
     if (kind == PROVE)
         buffer_resize(&call.lent[TABLE], 2 * LEGBARO_RECORD_BYTES);
@@ -201,7 +232,7 @@ static void make_field_fault(struct call *call, const struct fault *fault)
 
 static void make_fault(struct call *call, const struct fault *fault)
 {
-    uint64_t *const numbers[] = {&call->B, &call->d, &call->r, &call->t, &call->m};
+    uint64_t *const numbers[] = {&call->B, &call->d, &call->r, &call->t, &call->n, &call->m};
     if (fault->target < LENGTH_OF(ROLES))
         make_length_fault(&call->lent[fault->target], fault->value);
     else if (fault->target <= NUMBER_M)
@@ -219,10 +250,12 @@ static uint64_t number_at(enum place place, enum kind kind)
         [FIXED_SIZE] = LEGBARO_WRONG_LENGTH,
         [HEADER] = LEGBARO_WRONG_HEADER,
         [LIMITS] = LEGBARO_OUT_OF_LIMITS,
+        [POSITIONS_GIVEN] = LEGBARO_TOO_MANY_POSITIONS,
         [SIZE] = LEGBARO_WRONG_LENGTH,
         [OPEN_OR_NOT] = kind == JUDGE ? LEGBARO_NONE_OPEN : LEGBARO_TOKEN_OPEN,
         [TOKENS_LEFT] = LEGBARO_NO_TOKEN_LEFT,
         [BLOCK_NUMBER] = LEGBARO_NO_SUCH_BLOCK,
+        [WHOLE_BLOCKS] = LEGBARO_NOT_WHOLE_BLOCKS,
         [FULL] = LEGBARO_FILE_FULL,
         [COUNTER] = LEGBARO_COUNTER_AT_MOST,
         [RECORDS] = LEGBARO_BAD_RECORD + 256 * 2,
@@ -250,7 +283,7 @@ static void every_fault(enum kind kind)
 {
     group_begin("every fault of %s alone", call_name(kind));
     struct call call = faultless(kind);
-    call_finish(&call, LEGBARO_OK, "no fault");
+    call_finish(&call, LEGBARO_OK + 256 * (kind == POSITIONS ? POSITIONS_ANSWER : 0), "no fault");
     for (int a = 0; a < FAULTS; a++)
         if (faults[a].kinds & IN(kind))
             one_fault(kind, &faults[a]);

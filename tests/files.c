@@ -4,6 +4,9 @@
 #include "chance.h"
 #include "groups.h"
 
+/* The most blocks of a load that is not told how many. */
+enum { A_FEW = 4 };
+
 /* A buffer of random bytes. */
 static struct buffer any_bytes(size_t length)
 {
@@ -12,26 +15,34 @@ static struct buffer any_bytes(size_t length)
     return b;
 }
 
-struct call file_set_up_call(uint64_t B, uint64_t d, uint64_t r, uint64_t t)
+struct call file_set_up_call(uint64_t B, uint64_t d, uint64_t r, uint64_t t, uint64_t n)
 {
-    struct call call = {.kind = SET_UP, .B = B, .d = d, .r = r, .t = t};
+    struct call call = {.kind = SET_UP, .B = B, .d = d, .r = r, .t = t, .n = n};
     call.lent[MASTER] = any_bytes(LEGBARO_MASTER_BYTES);
     call.lent[ID] = any_bytes(LEGBARO_ID_BYTES);
-    call.lent[BLOCKS] = any_bytes(d * B);
+    call.lent[BLOCKS] = any_bytes(n * B);
     call.lent[CARD] = buffer_blank(LEGBARO_CARD_BYTES);
     call.lent[TABLE] = buffer_blank(t * LEGBARO_RECORD_BYTES);
     return call;
 }
 
-struct file file_set_up(uint64_t B, uint64_t d, uint64_t r, uint64_t t)
+struct file file_of(const struct call *set_up)
 {
-    struct call call = file_set_up_call(B, d, r, t);
+    struct call call = call_copy(set_up);
     call_expect(&call, LEGBARO_OK, "accepted");
     struct file file = {.book = book_start(&call),
                         .master = buffer_copy(&call.lent[MASTER]),
                         .card = buffer_copy(&call.lent[CARD]),
                         .table = buffer_copy(&call.lent[TABLE]),
                         .message = buffer_blank(LEGBARO_MESSAGE_BYTES)};
+    call_free(&call);
+    return file;
+}
+
+struct file file_set_up(uint64_t B, uint64_t d, uint64_t r, uint64_t t, uint64_t n)
+{
+    struct call call = file_set_up_call(B, d, r, t, n);
+    struct file file = file_of(&call);
     call_free(&call);
     return file;
 }
@@ -73,7 +84,7 @@ struct call file_call(const struct file *file, enum kind kind)
     if (call_takes(kind, TABLE))
         call.lent[TABLE] = buffer_copy(&file->table);
     if (call_takes(kind, BLOCKS))
-        call.lent[BLOCKS] = current_blocks(file);
+        call.lent[BLOCKS] = kind == LOAD ? any_bytes((1 + chance_below(A_FEW)) * numbers->B) : current_blocks(file);
     if (call_takes(kind, OLD))
         call.lent[OLD] = buffer_of(book_block(&file->book, call.m), numbers->B);
     if (call_takes(kind, NEW))
@@ -82,6 +93,14 @@ struct call file_call(const struct file *file, enum kind kind)
         call.lent[MESSAGE] = buffer_copy(&file->message);
     if (call_takes(kind, REPLY))
         call.lent[REPLY] = kind == JUDGE ? honest_reply(file) : buffer_blank(LEGBARO_REPLY_BYTES);
+    return call;
+}
+
+struct call file_load_call(const struct file *file, uint64_t blocks)
+{
+    struct call call = file_call(file, LOAD);
+    buffer_free(&call.lent[BLOCKS]);
+    call.lent[BLOCKS] = any_bytes(blocks * file->book.numbers.B);
     return call;
 }
 
@@ -107,11 +126,24 @@ uint64_t file_run(struct file *file, struct call *call)
     return number;
 }
 
+/* `file_run`, expected to be accepted. */
+static void run_accepted(struct file *file, struct call *call)
+{
+    enum kind kind = call->kind;
+    uint64_t number = file_run(file, call);
+    expect(number == LEGBARO_OK, "%s: accepted, not %llu", call_name(kind), (unsigned long long)number);
+}
+
 void file_do(struct file *file, enum kind kind)
 {
     struct call call = file_call(file, kind);
-    uint64_t number = file_run(file, &call);
-    expect(number == LEGBARO_OK, "%s: accepted, not %llu", call_name(kind), (unsigned long long)number);
+    run_accepted(file, &call);
+}
+
+void file_load(struct file *file, uint64_t blocks)
+{
+    struct call call = file_load_call(file, blocks);
+    run_accepted(file, &call);
 }
 
 void file_expect_book(const struct file *file)

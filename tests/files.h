@@ -12,22 +12,28 @@ struct file {
 };
 
 /* A set-up with random master, id and blocks. */
-struct call file_set_up_call(uint64_t B, uint64_t d, uint64_t r, uint64_t t);
+struct call file_set_up_call(uint64_t B, uint64_t d, uint64_t r, uint64_t t, uint64_t n);
 
-/* The file of such a set-up, which is compared and expected to be accepted; and its end. */
-struct file file_set_up(uint64_t B, uint64_t d, uint64_t r, uint64_t t);
+/* The file of a set-up, which is compared and expected to be accepted; that of such a set-up; and its end. */
+struct file file_of(const struct call *set_up);
+struct file file_set_up(uint64_t B, uint64_t d, uint64_t r, uint64_t t, uint64_t n);
 void file_end(struct file *file);
 
 /* A call on the file with nothing wrong in its arguments: a change has a block number that exists, present bytes and a random new block, a
- * proof the message drawn last and the current blocks, a judging the reply of such a proof. The state may still turn it away. */
+ * load a few random blocks, a proof the message drawn last and the current blocks, a judging the reply of such a proof. The state may
+ * still turn it away. */
 struct call file_call(const struct file *file, enum kind kind);
+
+/* A load of so many random blocks. */
+struct call file_load_call(const struct file *file, uint64_t blocks);
 
 /* Runs a change, draw or judging: compared with the second implementation and with the book. The file takes the buffers that it left,
  * and the call is freed. Answers the number. */
 uint64_t file_run(struct file *file, struct call *call);
 
-/* `file_run` of `file_call`, expected to be accepted. */
+/* `file_run` of `file_call`, and of `file_load_call`, expected to be accepted. */
 void file_do(struct file *file, enum kind kind);
+void file_load(struct file *file, uint64_t blocks);
 
 /* Expects card and table to be the book's, byte for byte. */
 void file_expect_book(const struct file *file);

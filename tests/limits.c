@@ -1,17 +1,16 @@
 /* Files with the most of each number. */
 #include "tests.h"
 
-#include "chance.h"
 #include "files.h"
 #include "groups.h"
 
-#include <stdlib.h>
 #include <string.h>
 
 /* Each call once, on a file that accepts them, with the book at the end. */
 static void round_of_calls(struct file *file)
 {
     file_do(file, APPEND);
+    file_do(file, LOAD);
     file_do(file, UPDATE);
     file_do(file, DELETE);
     file_do(file, DRAW);
@@ -36,7 +35,7 @@ static void follow_book(struct file *file)
 static void most_rows(void)
 {
     group_begin("the most rows and positions");
-    struct file file = file_set_up(1, LEGBARO_MOST_ROWS, LEGBARO_MOST_POSITIONS, 2);
+    struct file file = file_set_up(1, LEGBARO_MOST_ROWS, LEGBARO_MOST_POSITIONS, 2, LEGBARO_MOST_ROWS);
     round_of_calls(&file);
     file_end(&file);
     group_end();
@@ -45,7 +44,8 @@ static void most_rows(void)
 static void most_block_bytes(void)
 {
     group_begin("the most bytes in a block");
-    struct file file = file_set_up(LEGBARO_MOST_BLOCK_BYTES, LEGBARO_MOST_POSITIONS + 1, LEGBARO_MOST_POSITIONS, 2);
+    struct file file =
+        file_set_up(LEGBARO_MOST_BLOCK_BYTES, LEGBARO_MOST_POSITIONS + 1, LEGBARO_MOST_POSITIONS, 2, LEGBARO_MOST_POSITIONS);
     round_of_calls(&file);
     file_end(&file);
     group_end();
@@ -55,7 +55,7 @@ static void most_block_bytes(void)
 static void most_tokens(void)
 {
     group_begin("the most tokens");
-    struct file file = file_set_up(1, 2, 2, LEGBARO_MOST_TOKENS);
+    struct file file = file_set_up(1, 2, 2, LEGBARO_MOST_TOKENS, 2);
     memcpy(file.book.spent, file.table.bytes, file.table.length);
     file_do(&file, UPDATE);
     file_expect_book(&file);
@@ -67,21 +67,63 @@ static void most_tokens(void)
     group_end();
 }
 
-/* All blocks but one are put into the book by hand. */
+/* Expects a load of so many blocks to be turned away with a code. */
+static void load_refused(const struct file *file, uint64_t blocks, uint64_t code)
+{
+    struct call call = file_load_call(file, blocks);
+    call_finish(&call, code, "past the most");
+}
+
+/* Updates, deletions and an audit go on where no block can be added. */
+static void full(struct file *file)
+{
+    refused(file, APPEND, LEGBARO_FILE_FULL);
+    load_refused(file, 1, LEGBARO_FILE_FULL);
+    file_do(file, UPDATE);
+    file_do(file, DELETE);
+    file_do(file, DRAW);
+    file_do(file, JUDGE);
+    file_expect_book(file);
+}
+
+/* Set up with all but a few blocks, and filled by appends and loads; a load one past the most is turned away. */
 static void most_blocks(void)
 {
-    group_begin("the most blocks");
-    struct file file = file_set_up(1, LEGBARO_MOST_ROWS, LEGBARO_MOST_POSITIONS, 2);
-    uint8_t *blocks = realloc(file.book.blocks, LEGBARO_MOST_BLOCKS);
-    expect(blocks != NULL, "memory");
-    if (blocks) {
-        chance_bytes(blocks, LEGBARO_MOST_BLOCKS);
-        file.book.blocks = blocks;
-        file.book.numbers.n = LEGBARO_MOST_BLOCKS - 1;
-        follow_book(&file);
-        round_of_calls(&file);
-        refused(&file, APPEND, LEGBARO_FILE_FULL);
-    }
+    enum { LEFT = 50 };
+    group_begin("the most blocks, filled by loads");
+    struct file file = file_set_up(1, LEGBARO_MOST_ROWS, LEGBARO_MOST_POSITIONS, 2, LEGBARO_MOST_BLOCKS - LEFT);
+    load_refused(&file, LEFT + 1, LEGBARO_FILE_FULL);
+    file_do(&file, APPEND);
+    file_load(&file, LEFT - 3);
+    load_refused(&file, 3, LEGBARO_FILE_FULL);
+    file_load(&file, 2);
+    full(&file);
+    file_end(&file);
+    group_end();
+}
+
+/* Set up with the most blocks; with one more it is turned away. */
+static void most_blocks_at_once(void)
+{
+    group_begin("the most blocks at set-up");
+    struct file file = file_set_up(1, LEGBARO_MOST_ROWS, LEGBARO_MOST_POSITIONS, 2, LEGBARO_MOST_BLOCKS);
+    full(&file);
+    file_end(&file);
+    struct call call = file_set_up_call(1, 2, 2, 1, LEGBARO_MOST_BLOCKS + 1);
+    call_finish(&call, LEGBARO_OUT_OF_LIMITS, "one block above the most");
+    group_end();
+}
+
+/* A file planned for the most rows, with one block, then all other rows in one load. */
+static void most_rows_loaded(void)
+{
+    group_begin("the most rows, all but one filled by one load");
+    struct file file = file_set_up(1, LEGBARO_MOST_ROWS, LEGBARO_MOST_POSITIONS, 2, 1);
+    round_of_calls(&file);
+    file_load(&file, LEGBARO_MOST_ROWS - file.book.numbers.n);
+    file_do(&file, DRAW);
+    file_do(&file, JUDGE);
+    file_expect_book(&file);
     file_end(&file);
     group_end();
 }
@@ -89,13 +131,14 @@ static void most_blocks(void)
 static void most_counter(void)
 {
     group_begin("the most counter");
-    struct file file = file_set_up(28, 5, 3, 3);
+    struct file file = file_set_up(28, 5, 3, 3, 4);
     file.book.numbers.ctr = LEGBARO_MOST_COUNTER - 1;
     follow_book(&file);
     file_do(&file, APPEND);
     refused(&file, UPDATE, LEGBARO_COUNTER_AT_MOST);
     refused(&file, DELETE, LEGBARO_COUNTER_AT_MOST);
     refused(&file, APPEND, LEGBARO_COUNTER_AT_MOST);
+    refused(&file, LOAD, LEGBARO_COUNTER_AT_MOST);
     file_do(&file, DRAW);
     file_do(&file, JUDGE);
     file_expect_book(&file);
@@ -108,6 +151,8 @@ void test_limits(void)
     most_rows();
     most_block_bytes();
     most_tokens();
+    most_rows_loaded();
     most_blocks();
+    most_blocks_at_once();
     most_counter();
 }

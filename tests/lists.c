@@ -5,7 +5,7 @@
 #include "files.h"
 #include "groups.h"
 
-enum { LONGEST = 40, MOST_TOKENS = 6 };
+enum { LONGEST = 40, MOST_TOKENS = 6, MOST_LOADED = 40 };
 
 static const uint64_t rows[] = {1, 2, 4, 5, 16, 17};
 static const uint64_t block_bytes[] = {1, 27, 28, 91, 92, 4096};
@@ -36,7 +36,7 @@ static uint64_t no_such_block(const struct file *file)
 /* Something wrong in what a list may hold: anything lent but card and table, the master's bytes and a block's present bytes. */
 static void disturb(const struct file *file, struct call *call)
 {
-    static const enum role lent[] = {MASTER, OLD, NEW, MESSAGE, REPLY};
+    static const enum role lent[] = {MASTER, OLD, NEW, BLOCKS, MESSAGE, REPLY};
     enum role role = lent[chance_below(COUNT(lent))];
     if (chance_of(4))
         call->m = no_such_block(file);
@@ -49,16 +49,23 @@ static void disturb(const struct file *file, struct call *call)
 /* Which call comes next: a drawn token is mostly judged, and drawing is rarer than changing. */
 static enum kind next_kind(const struct file *file)
 {
-    static const enum kind changes[] = {UPDATE, DELETE, APPEND};
+    static const enum kind changes[] = {UPDATE, DELETE, APPEND, LOAD};
     if (file->book.numbers.open ? chance_of(2) : chance_of(20))
         return JUDGE;
     return chance_of(5) ? DRAW : changes[chance_below(COUNT(changes))];
 }
 
+/* A call of the list with nothing wrong in it. A load has a few blocks or, at times, many. */
+static struct call next_call(const struct file *file)
+{
+    enum kind kind = next_kind(file);
+    return kind == LOAD && chance_of(4) ? file_load_call(file, 1 + chance_below(MOST_LOADED)) : file_call(file, kind);
+}
+
 /* A call of the list. */
 static void step(struct file *file)
 {
-    struct call call = file_call(file, next_kind(file));
+    struct call call = next_call(file);
     if (call.kind == UPDATE && chance_of(5))
         for (size_t i = 0; i < call.lent[NEW].length; i++)
             call.lent[NEW].bytes[i] = call.lent[OLD].bytes[i];
@@ -70,7 +77,7 @@ static void step(struct file *file)
 /* A call beside the list, on copies: any kind, with some bytes or lengths of any buffer altered. The book knows nothing of it. */
 static void aside(const struct file *file)
 {
-    static const enum kind kinds[] = {UPDATE, DELETE, APPEND, DRAW, JUDGE, PROVE};
+    static const enum kind kinds[] = {UPDATE, DELETE, APPEND, LOAD, DRAW, JUDGE, PROVE};
     struct call call = file_call(file, kinds[chance_below(COUNT(kinds))]);
     for (uint64_t faults = 1 + chance_below(2); faults; faults--) {
         enum role role = (enum role)chance_below(ROLES);
@@ -85,11 +92,18 @@ static void aside(const struct file *file)
     call_free(&call);
 }
 
+/* A number of blocks at set-up for d rows: below d where there is one, d, or above. */
+static uint64_t first_blocks(uint64_t d)
+{
+    uint64_t numbers[] = {1 + chance_below(d), d, d + 1 + chance_below(2 * d)};
+    return numbers[chance_below(COUNT(numbers))];
+}
+
 /* One list on a new file. */
 static void list(uint64_t B, uint64_t d, uint64_t t)
 {
     uint64_t r = chance_of(3) ? d : 1 + chance_below(d);
-    struct file file = file_set_up(B, d, r, t);
+    struct file file = file_set_up(B, d, r, t, first_blocks(d));
     for (uint64_t calls = chance_below(LONGEST + 1); calls; calls--) {
         if (chance_of(6))
             aside(&file);

@@ -55,6 +55,8 @@ int main(int count, char **words)
     test_refusals();
     test_faults();
     test_bits();
+    test_loads();
+    test_plans();
     test_lists(options.lists);
     if (!options.exact) {
         test_limits();

@@ -1,4 +1,4 @@
-/* Paper 01's "Turned away": the small input of each refusal, what is taken at the edge, and the token that code 7 names. */
+/* "Turned away" of papers 01 and 02: the small input of each refusal, what is taken at the edge, and the token that code 7 names. */
 #include "tests.h"
 
 #include "chance.h"
@@ -14,21 +14,42 @@ static void refused(const struct file *file, enum kind kind, uint64_t code, cons
     call_finish(&call, code, what);
 }
 
-/* Code 3's small input: d 5, r 6. */
-static void too_many_positions(void)
+/* Code 3's small input: d 5, r 6. And n 0. */
+static void outside_limits(void)
 {
-    struct call call = file_set_up_call(B, 5, 6, T);
+    struct call call = file_set_up_call(B, 5, 6, T, 5);
     call_finish(&call, LEGBARO_OUT_OF_LIMITS, "d 5, r 6");
+
+    call = file_set_up_call(B, D, R, T, 0);
+    call_finish(&call, LEGBARO_OUT_OF_LIMITS, "n 0");
 }
 
 /* Code 6's small input: t 1, one draw judged, draw. */
 static void last_token_drawn(void)
 {
-    struct file file = file_set_up(B, D, R, 1);
+    struct file file = file_set_up(B, D, R, 1, D);
     file_do(&file, DRAW);
     file_do(&file, JUDGE);
     refused(&file, DRAW, LEGBARO_NO_TOKEN_LEFT, "t 1, one draw judged, draw");
     file_end(&file);
+}
+
+/* Code 12's small inputs: a load of no bytes, of one byte less than a block, of one more. */
+static void broken_loads(const struct file *file)
+{
+    static const size_t lengths[] = {0, B - 1, B + 1};
+    for (size_t i = 0; i < sizeof lengths / sizeof *lengths; i++) {
+        struct call call = file_load_call(file, 1);
+        buffer_resize(&call.lent[BLOCKS], lengths[i]);
+        call_finish(&call, LEGBARO_NOT_WHOLE_BLOCKS, "no whole blocks");
+    }
+}
+
+/* Code 13's small input: one position, 513 planned rows, one block present. */
+static void too_many_positions(void)
+{
+    struct call call = {.kind = POSITIONS, .r = 1, .d = LEGBARO_MOST_POSITIONS + 1, .n = 1};
+    call_finish(&call, LEGBARO_TOO_MANY_POSITIONS, "513 positions");
 }
 
 /* The small inputs on a new file. */
@@ -50,6 +71,10 @@ static void small_calls(struct file *file)
     buffer_put_number(&call.lent[CARD], LEGBARO_CARD_BLOCKS, 4, LEGBARO_MOST_BLOCKS);
     call_finish(&call, LEGBARO_FILE_FULL, "n 16,777,216");
 
+    call = file_load_call(file, 2);
+    buffer_put_number(&call.lent[CARD], LEGBARO_CARD_BLOCKS, 4, LEGBARO_MOST_BLOCKS - 1);
+    call_finish(&call, LEGBARO_FILE_FULL, "n 16,777,215 and two blocks");
+
     call = file_call(file, UPDATE);
     buffer_flip(&call.lent[TABLE], 8 * (2 * LEGBARO_RECORD_BYTES - 1));
     call_finish(&call, LEGBARO_BAD_RECORD + 256 * 2, "bit flipped in record 2's tag");
@@ -58,18 +83,35 @@ static void small_calls(struct file *file)
     buffer_put_number(&call.lent[CARD], LEGBARO_CARD_COUNTER, 8, LEGBARO_MOST_COUNTER);
     call_finish(&call, LEGBARO_COUNTER_AT_MOST, "ctr 4,294,967,295");
 
+    broken_loads(file);
     refused(file, JUDGE, LEGBARO_NONE_OPEN, "judge after set-up");
     file_do(file, DRAW);
     refused(file, APPEND, LEGBARO_TOKEN_OPEN, "draw, append");
 }
 
-/* What is taken: r 5 with d 5; t = 1 allows one draw; for a proof, a table that is just long enough or longer. */
+/* A file of one block in many rows: set up, changed, drawn and judged. */
+static void one_block(void)
+{
+    struct file file = file_set_up(B, D, R, T, 1);
+    file_do(&file, UPDATE);
+    file_do(&file, DELETE);
+    file_do(&file, DRAW);
+    file_do(&file, JUDGE);
+    file_do(&file, LOAD);
+    file_expect_book(&file);
+    file_end(&file);
+}
+
+/* What is taken: r 5 with d 5; t = 1 allows one draw; n from 1; for a proof, a table that is just long enough or longer; 512 positions. */
 static void taken(void)
 {
-    struct file file = file_set_up(B, 5, 5, 1);
+    struct call call = {.kind = POSITIONS, .r = 1, .d = LEGBARO_MOST_POSITIONS, .n = 1};
+    call_finish(&call, LEGBARO_OK + 256 * LEGBARO_MOST_POSITIONS, "512 positions");
+    one_block();
+    struct file file = file_set_up(B, 5, 5, 1, 5);
     file_do(&file, DRAW);
     for (size_t longer = 0; longer <= 2; longer++) {
-        struct call call = file_call(&file, PROVE);
+        call = file_call(&file, PROVE);
         buffer_resize(&call.lent[TABLE], LEGBARO_RECORD_BYTES + longer);
         call_finish(&call, LEGBARO_OK, "a table of 63 bytes or more for token 1");
     }
@@ -80,9 +122,10 @@ static void taken(void)
 static void small_inputs(void)
 {
     group_begin("each refusal's small input");
-    struct file file = file_set_up(B, D, R, T);
+    struct file file = file_set_up(B, D, R, T, D);
     small_calls(&file);
     file_end(&file);
+    outside_limits();
     too_many_positions();
     last_token_drawn();
     taken();
@@ -105,10 +148,10 @@ static void damaged_set(const struct file *file, enum kind kind, unsigned set)
 static void bad_records(void)
 {
     group_begin("code 7 names the lowest unused record that does not open");
-    struct file file = file_set_up(B, D, R, RECORDS_TRIED);
+    struct file file = file_set_up(B, D, R, RECORDS_TRIED, D);
     for (unsigned next = 1; next <= RECORDS_TRIED + 1; next++) {
         for (unsigned set = 0; set < 2u << RECORDS_TRIED; set += 2)
-            damaged_set(&file, (enum kind)(UPDATE + chance_below(3)), set);
+            damaged_set(&file, (enum kind)(UPDATE + chance_below(LOAD + 1 - UPDATE)), set);
         if (next <= RECORDS_TRIED) {
             file_do(&file, DRAW);
             file_do(&file, JUDGE);

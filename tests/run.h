@@ -8,20 +8,24 @@
 #define RUN(before, behind)                                                                                                    \
     switch (call->kind) {                                                                                                      \
     case SET_UP:                                                                                                               \
-        return before##_set_up##behind(LENT(MASTER), LENT(ID), call->B, call->d, call->r, call->t, LENT(BLOCKS), LENT(CARD),   \
-                                       LENT(TABLE));                                                                           \
+        return before##_set_up##behind(LENT(MASTER), LENT(ID), call->B, call->d, call->r, call->t, call->n, LENT(BLOCKS),      \
+                                       LENT(CARD), LENT(TABLE));                                                               \
     case UPDATE:                                                                                                               \
         return before##_update##behind(LENT(MASTER), LENT(CARD), LENT(TABLE), call->m, LENT(OLD), LENT(NEW));                  \
     case DELETE:                                                                                                               \
         return before##_delete##behind(LENT(MASTER), LENT(CARD), LENT(TABLE), call->m, LENT(OLD));                             \
     case APPEND:                                                                                                               \
         return before##_append##behind(LENT(MASTER), LENT(CARD), LENT(TABLE), LENT(NEW));                                      \
+    case LOAD:                                                                                                                 \
+        return before##_load##behind(LENT(MASTER), LENT(CARD), LENT(TABLE), LENT(BLOCKS));                                     \
     case DRAW:                                                                                                                 \
         return before##_draw##behind(LENT(MASTER), LENT(CARD), LENT(MESSAGE));                                                 \
     case JUDGE:                                                                                                                \
         return before##_judge##behind(LENT(MASTER), LENT(CARD), LENT(REPLY));                                                  \
-    default:                                                                                                                   \
+    case PROVE:                                                                                                                \
         return before##_prove##behind(LENT(MESSAGE), LENT(BLOCKS), LENT(TABLE), LENT(REPLY));                                  \
+    default:                                                                                                                   \
+        return before##_positions##behind(call->r, call->d, call->n);                                                          \
     }
 
 #endif

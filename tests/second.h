@@ -1,11 +1,12 @@
 /*
- * A second implementation of the calls, over OpenSSL's libcrypto, to compare the library with. It follows paper 01's text, shares no code
- * with the library, and takes the paper's letters: B bytes in a block, d rows, r positions, t tokens, n blocks.
+ * A second implementation of the calls, over OpenSSL's libcrypto, to compare the library with. It follows the text of papers 01 and 02,
+ * shares no code with the library, and takes the papers' letters: B bytes in a block, d rows, r positions, t tokens, n blocks.
  *
  *   second_start, second_end                the contexts of libcrypto that all else here uses
- *   second_set_up .. second_prove           the seven calls, with the arguments of legbaro.h
+ *   second_set_up .. second_positions       the calls, with the arguments of legbaro.h
  *   struct card, second_read_card, second_write_card   the numbers of a card, and their bytes
  *   second_fresh_records                    the records of unused tokens, reckoned from the blocks
+ *   struct edit                             what a change hands over
  *   second_change_fault, second_draw_fault, second_judge_fault   the code of a call that is turned away, 0 for none
  *   second_verdict                          0 or 11
  *   second_half_width, second_permuted, second_permuted_back   the permutation P
@@ -23,14 +24,24 @@ struct card {
     uint64_t B, d, r, t, n, ctr, next, open;
 };
 
-enum edit { EDIT_UPDATE, EDIT_DELETE, EDIT_APPEND };
+/* An update and a deletion have a block number and an old block; an update and an append a new block, a load new blocks end to end. */
+enum edit_kind { EDIT_UPDATE, EDIT_DELETE, EDIT_APPEND, EDIT_LOAD };
+
+struct edit {
+    enum edit_kind kind;
+    uint64_t m;
+    const uint8_t *old_block;
+    size_t old_length;
+    const uint8_t *new_blocks;
+    size_t new_length;
+};
 
 void second_start(void);
 void second_end(void);
 
 uint64_t second_set_up(const uint8_t *master, size_t master_length,
                        const uint8_t *id, size_t id_length,
-                       uint64_t B, uint64_t d, uint64_t r, uint64_t t,
+                       uint64_t B, uint64_t d, uint64_t r, uint64_t t, uint64_t n,
                        const uint8_t *blocks, size_t blocks_length,
                        uint8_t *card, size_t card_length,
                        uint8_t *table, size_t table_length);
@@ -53,6 +64,11 @@ uint64_t second_append(const uint8_t *master, size_t master_length,
                        uint8_t *table, size_t table_length,
                        const uint8_t *new_block, size_t new_block_length);
 
+uint64_t second_load(const uint8_t *master, size_t master_length,
+                     uint8_t *card, size_t card_length,
+                     uint8_t *table, size_t table_length,
+                     const uint8_t *blocks, size_t blocks_length);
+
 uint64_t second_draw(const uint8_t *master, size_t master_length,
                      uint8_t *card, size_t card_length,
                      uint8_t *message, size_t message_length);
@@ -66,6 +82,8 @@ uint64_t second_prove(const uint8_t *message, size_t message_length,
                       const uint8_t *table, size_t table_length,
                       uint8_t *reply, size_t reply_length);
 
+uint64_t second_positions(uint64_t r, uint64_t planned, uint64_t present);
+
 /* The numbers of LEGBARO_CARD_BYTES, whatever they are, and the bytes of numbers. */
 struct card second_read_card(const uint8_t *bytes);
 void second_write_card(uint8_t *bytes, const struct card *c);
@@ -74,10 +92,9 @@ void second_write_card(uint8_t *bytes, const struct card *c);
 void second_fresh_records(const uint8_t *master, const struct card *c, const uint8_t *blocks, uint64_t first, uint64_t last,
                           uint8_t *table);
 
-/* The code of a change, code 7 apart, of a draw, and of a judging before its verdict. m counts for update and delete, old_length for
- * these two, new_length for update and append. */
-uint64_t second_change_fault(enum edit edit, size_t master_length, const uint8_t *card, size_t card_length, size_t table_length,
-                             uint64_t m, size_t old_length, size_t new_length);
+/* The code of a change, code 7 apart, of a draw, and of a judging before its verdict. */
+uint64_t second_change_fault(const struct edit *edit, size_t master_length, const uint8_t *card, size_t card_length,
+                             size_t table_length);
 uint64_t second_draw_fault(size_t master_length, const uint8_t *card, size_t card_length, size_t message_length);
 uint64_t second_judge_fault(size_t master_length, const uint8_t *card, size_t card_length);
 

@@ -45,11 +45,14 @@ static void expect_small(struct call call)
 void test_stack(void)
 {
     group_begin("each call needs less than 64 KB of stack");
-    struct file file = file_set_up(512, 64, 64, 2);
-    expect_small(file_set_up_call(512, 64, 64, 2));
+    struct file file = file_set_up(512, 64, 64, 2, 64);
+    expect_small(file_set_up_call(512, 64, 64, 2, 64));
     expect_small(file_call(&file, UPDATE));
     expect_small(file_call(&file, DELETE));
     expect_small(file_call(&file, APPEND));
+    expect_small(file_load_call(&file, 1));
+    expect_small(file_load_call(&file, 60));
+    expect_small(file_load_call(&file, 600));
     expect_small(file_call(&file, DRAW));
     file_do(&file, DRAW);
     expect_small(file_call(&file, PROVE));

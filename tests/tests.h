@@ -5,14 +5,20 @@
 /* The second implementation's permutation on small d: one to one, undone backward, with paper 01's half widths. */
 void test_permutation(void);
 
-/* The small input of each refusal in paper 01's table, what is taken at the edge, and the token that code 7 names. */
+/* The small input of each refusal of papers 01 and 02, what is taken at the edge, and the token that code 7 names. */
 void test_refusals(void);
 
-/* Every fault alone, and every two faults in one call, in paper 01's order. */
+/* Every fault alone, and every two faults in one call, in the papers' order. */
 void test_faults(void);
 
 /* Every single-bit change of what the calls read. */
 void test_bits(void);
+
+/* Loads of many sizes, and set-ups with fewer, as many and more blocks than rows. */
+void test_loads(void);
+
+/* How many positions to draw of planned rows. */
+void test_plans(void);
 
 /* Random lists of calls, turned-away ones included, on files of every small and odd size. */
 void test_lists(unsigned lists);

@@ -9,17 +9,20 @@
 int main(void)
 {
     static const uint8_t master[LEGBARO_MASTER_BYTES] = {1}, id[LEGBARO_ID_BYTES] = {2}, zeros[B] = {0};
-    static uint8_t blocks[(D + 1) * B], card[LEGBARO_CARD_BYTES], table[T * LEGBARO_RECORD_BYTES];
+    static uint8_t blocks[(D + 2) * B], card[LEGBARO_CARD_BYTES], table[T * LEGBARO_RECORD_BYTES];
     static uint8_t message[LEGBARO_MESSAGE_BYTES], reply[LEGBARO_REPLY_BYTES];
-    static const uint8_t block[B] = {3};
+    static const uint8_t block[B] = {3}, two[2 * B] = {0};
     uint64_t numbers = 0;
 
-    numbers |= legbaro_set_up(master, sizeof master, id, sizeof id, B, D, R, T, blocks, D * B, card, sizeof card, table, sizeof table);
+    numbers |= legbaro_set_up(master, sizeof master, id, sizeof id, B, D, R, T, D - 1, blocks, (D - 1) * B, card, sizeof card, table,
+                              sizeof table);
     numbers |= legbaro_append(master, sizeof master, card, sizeof card, table, sizeof table, zeros, sizeof zeros);
+    numbers |= legbaro_load(master, sizeof master, card, sizeof card, table, sizeof table, two, sizeof two);
     numbers |= legbaro_update(master, sizeof master, card, sizeof card, table, sizeof table, 1, zeros, sizeof zeros, block, sizeof block);
     numbers |= legbaro_delete(master, sizeof master, card, sizeof card, table, sizeof table, 1, block, sizeof block);
     numbers |= legbaro_draw(master, sizeof master, card, sizeof card, message, sizeof message);
     numbers |= legbaro_prove(message, sizeof message, blocks, sizeof blocks, table, sizeof table, reply, sizeof reply);
     numbers |= legbaro_judge(master, sizeof master, card, sizeof card, reply, sizeof reply);
+    numbers |= LEGBARO_CODE(legbaro_positions(R, D, D - 1));
     return numbers == LEGBARO_OK ? 0 : 1;
 }

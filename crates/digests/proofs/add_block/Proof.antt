@@ -36,9 +36,9 @@ add-requires c κs =
     let p = s .pre in
     let long = head-long headed in (
       p .0,
-      subst (λ (h : ℕ). Cut (a .f) h (a .size)) (sym long) (p .1),
+      subst (λ (h : ℕ). Cut (a .f) h (a .b .size)) (sym long) (p .1),
       omega (arith, started .start-of .ensures .1, p .2 .inside),
-      p .4 ∙ ap (λ (h : ℕ). padding (h + a .size)) (sym long),
+      p .4 ∙ ap (λ (h : ℕ). padding (h + a .b .size)) (sym long),
       p .5,
     )
 
@@ -54,7 +54,7 @@ returns c =
     let s = indexed .before .before .before .before in
     let a = s .args in (
       added .add .ensures .0,
-      hashed-at (a .c) (headed .head-of .result) _ _ (a .blocks .now) (a .rows) (a .row .0) (a .j .0) (a .column) (a .size) (indexed .index-of .result) (started .start-of .result)
+      hashed-at (a .c) (headed .head-of .result) _ _ (a .blocks .now) (a .b) (a .row .0) (a .j .0) (a .column) (indexed .index-of .result) (started .start-of .result)
           (indexed .index-of .ensures)
           (headed .head-of .ensures)
           (started .start-of .ensures .0)

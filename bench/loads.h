@@ -1,0 +1,7 @@
+/* A load beside the calls in whose place it stands, in one run: a set-up of as many blocks, or an append for each block. */
+#ifndef LOADS_H
+#define LOADS_H
+
+void print_loads(void);
+
+#endif

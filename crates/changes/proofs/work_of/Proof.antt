@@ -1,0 +1,84 @@
+-- The kind is known in each arm.
+use borrow.Author.Needs.{needs}
+use mathlib.Core.Path.{sym, ap, _∙_}
+use Rattle.changes.specs.Edits.{workFor}
+use Rattle.changes.specs.declared.Kind.{Kind}
+use Rattle.changes.proofs.work_of.Statement.{statement}
+use Rattle.changes.proofs.work_of.Tie as tie
+
+enum-told : tie.Need-enum-told
+enum-told c = search needs
+
+work-with-requires : tie.Need-work-with-requires
+work-with-requires c κs = search needs
+
+enum-told-2 : tie.Need-enum-told-2
+enum-told-2 c = search needs
+
+work-with-requires-2 : tie.Need-work-with-requires-2
+work-with-requires-2 c κs = search needs
+
+enum-told-3 : tie.Need-enum-told-3
+enum-told-3 c = search needs
+
+add-work-with : tie.Need-add-work-with
+add-work-with c = search needs
+
+div-work-with : tie.Need-div-work-with
+div-work-with c = search needs
+
+work-with-requires-3 : tie.Need-work-with-requires-3
+work-with-requires-3 c κs = search needs
+
+enum-told-4 : tie.Need-enum-told-4
+enum-told-4 c = search needs
+
+add-work-with-2 : tie.Need-add-work-with-2
+add-work-with-2 c = search needs
+
+div-work-with-2 : tie.Need-div-work-with-2
+div-work-with-2 c = search needs
+
+work-with-requires-4 : tie.Need-work-with-requires-4
+work-with-requires-4 c κs = search needs
+
+returns : tie.Need-returns
+returns c =
+    let a = c .before .before .before .args in
+    c .work-with .ensures ∙ sym (ap (λ (k : Kind). workFor (a .c) k (a .m) (a .long)) (c .before .enum-told .given .1))
+
+returns-2 : tie.Need-returns-2
+returns-2 c =
+    let a = c .before .before .before .args in
+    c .work-with2 .ensures ∙ sym (ap (λ (k : Kind). workFor (a .c) k (a .m) (a .long)) (c .before .enum-told2 .given .1))
+
+returns-3 : tie.Need-returns-3
+returns-3 c =
+    let a = c .before .before .before .before .before .args in
+    c .work-with3 .ensures ∙ sym (ap (λ (k : Kind). workFor (a .c) k (a .m) (a .long)) (c .before .before .before .enum-told3 .given .1))
+
+returns-4 : tie.Need-returns-4
+returns-4 c =
+    let a = c .before .before .before .before .before .args in
+    c .work-with4 .ensures ∙ sym (ap (λ (k : Kind). workFor (a .c) k (a .m) (a .long)) (c .before .before .before .enum-told4 .given .1))
+
+pub work-of-spec : {M : Type 1} → statement M
+work-of-spec =
+    tie.close
+    (tie.spec
+    enum-told
+    work-with-requires
+    enum-told-2
+    work-with-requires-2
+    enum-told-3
+    add-work-with
+    div-work-with
+    work-with-requires-3
+    enum-told-4
+    add-work-with-2
+    div-work-with-2
+    work-with-requires-4
+    returns
+    returns-2
+    returns-3
+    returns-4)

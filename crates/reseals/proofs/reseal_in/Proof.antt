@@ -1,0 +1,134 @@
+-- What is left to reseal gives the same table, the records left still open, and each turn takes one, by turn and reseal-more.
+use borrow.Author.Needs.{needs}
+use native.Mathlib.Omega.{arith}
+use mathlib.Core.Path.{_≡_, refl, sym, _∙_}
+use mathlib.Core.List.{List}
+use Prim.Native.Nat.{ℕ, _+_, _*_, _-_, _≤_}
+use lib.ListN.{length}
+use Rattle.scheme.specs.Table.{firstBad, reseal}
+use Rattle.scheme.proofs.TableLaws.{reseal-end}
+use Rattle.standard.specs.Standard.{standard}
+use Rattle.records.specs.Fields.{cardOf}
+use Rattle.tokens.specs.Keyed.{Keyed}
+use Rattle.works.specs.Items.{itemsOf}
+use Rattle.reseals.proofs.ResealLaws.{bad-opens, turn, reseal-more}
+use Rattle.reseals.proofs.reseal_in.Statement.{statement}
+use Rattle.reseals.proofs.reseal_in.Tie as tie
+
+abbrev Inv-loop : tie.InvT-loop
+Inv-loop keys c work old new table₀ walks₀ starts₀ ends₀ p₀ i₀ table walks starts ends p i =
+    (1 ≤ i)
+    × (i ≤ c .tokens + 1)
+    × (length table ≡ c .tokens * 63)
+    × (firstBad standard (keys .k) (c .counter) table (c .tokens + 1 - i) i ≡ 0)
+    × ((master : List ℕ) → Keyed master (c .id) keys
+    → reseal standard master (cardOf c) (itemsOf work old new) (c .tokens + 1 - i) i table
+    ≡ reseal standard master (cardOf c) (itemsOf work old new) (c .tokens + 1 - c .next) (c .next) table₀)
+    × (length walks ≡ length walks₀)
+    × (length starts ≡ length starts₀)
+    × (length ends ≡ length ends₀)
+    × (length p ≡ length p₀)
+
+abbrev μ-loop : tie.MeasureT-loop
+μ-loop keys c work old new table₀ walks₀ starts₀ ends₀ p₀ i₀ table walks starts ends p i = c .tokens + 1 - i
+
+loop-holds : tie.Need-loop-holds Inv-loop μ-loop
+loop-holds c =
+    let r = c .before .before .before .before .before .before .before .pre .0 .0 in
+    (r .next1, r .nextmost, r .whole, r .opens, (λ master k. refl), refl, refl, refl, refl)
+
+reseal-one-requires : tie.Need-reseal-one-requires Inv-loop μ-loop
+reseal-one-requires c κs =
+    let s = c .before .before .before .before .before .before .before .before .before .before .before .before .before .before .before in
+    let l = c .before .before .before .before .before .before .before .loop in
+    let a = s .args in
+    let h : l .i ≤ a .c .tokens = c .before .before .before .before .before .if1 .taken in (
+      (s .pre .0 .0 .room, s .pre .0 .1, s .pre .0 .2),
+      (
+        (λ several.
+            let room = s .pre .1 several in
+            record {
+              walks-long = l .inv .5 ∙ room .walks-long;
+              starts-long = l .inv .6 ∙ room .starts-long;
+              ends-long = l .inv .7 ∙ room .ends-long;
+              whole = l .inv .8 ∙ room .whole;
+            }),
+        (
+          (l .inv .0, omega (arith, h, s .pre .0 .0 .few-tokens), omega (arith, h, l .inv .2)),
+          bad-opens (a .keys .k) (a .c .counter) (a .c .tokens) (l .i) (l .table) (l .inv .0) h (l .inv .3),
+        ),
+      ),
+    )
+
+add-i : tie.Need-add-i Inv-loop μ-loop
+add-i c =
+    let back16 = c .before .before .before .before .before .before .before .before .before .before .before .before .before .before .before .before in
+    let back26 = back16 .before .before .before .before .before .before .before .before .before .before in
+    omega (arith, back16 .if1 .taken, back26 .pre .0 .0 .few-tokens)
+
+loop-less : tie.Need-loop-less Inv-loop μ-loop
+loop-less c = omega (arith, c .before .before .before .before .before .before .before .before .before .before .before .before .before .before .before .before .if1 .taken)
+
+loop-again : tie.Need-loop-again Inv-loop μ-loop
+unfolding cardOf
+loop-again c =
+    let back10 = c .before .before .before .before .before .before .before .before .before .before in
+    let back16 = back10 .before .before .before .before .before .before in
+    let back18 = back16 .before .before in
+    let back26 = back18 .before .before .before .before .before .before .before .before in
+    let one = back10 .reseal-one in
+    let l = back18 .loop in
+    let a = back26 .args in
+    let items = itemsOf (a .work) (a .old .now) (a .new .now) in
+    let h : l .i ≤ a .c .tokens = back16 .if1 .taken in
+    let both = turn (a .keys) (cardOf (a .c)) items (a .c .tokens) (l .i) (l .table) _ (l .inv .0) h (l .inv .2) (l .inv .3) (one .ensures .0) (one .ensures .1) in (
+      omega arith,
+      omega (arith, h),
+      both .0,
+      both .1,
+      (λ master k. reseal-more (cardOf (a .c)) items (a .c .tokens) (l .i) (l .table) _ k h (one .ensures .1) ∙ l .inv .4 master k),
+      omega (arith, one .kept, l .inv .5),
+      omega (arith, one .kept, l .inv .6),
+      omega (arith, one .kept, l .inv .7),
+      omega (arith, one .kept, l .inv .8),
+    )
+
+same-length : tie.Need-same-length Inv-loop μ-loop
+same-length c = c .before .before .loop .inv .2 ∙ sym (c .before .before .before .before .before .before .before .before .before .before .pre .0 .0 .whole)
+
+same-length-2 : tie.Need-same-length-2 Inv-loop μ-loop
+same-length-2 c = c .before .before .loop .inv .5
+
+same-length-3 : tie.Need-same-length-3 Inv-loop μ-loop
+same-length-3 c = c .before .before .loop .inv .6
+
+same-length-4 : tie.Need-same-length-4 Inv-loop μ-loop
+same-length-4 c = c .before .before .loop .inv .7
+
+same-length-5 : tie.Need-same-length-5 Inv-loop μ-loop
+same-length-5 c = c .before .before .loop .inv .8
+
+returns : tie.Need-returns Inv-loop μ-loop
+returns c = λ master k.
+    let l = c .before .before .loop in
+    let a = c .before .before .before .before .before .before .before .before .before .before .args in
+    let items = itemsOf (a .work) (a .old .now) (a .new .now) in
+    sym (reseal-end standard master (cardOf (a .c)) items (a .c .tokens) (l .i) (l .table) (omega (arith, c .if1 .left))) ∙ l .inv .4 master k
+
+pub reseal-in-spec : {M : Type 1} → statement M
+reseal-in-spec =
+    tie.close
+    (tie.spec
+    Inv-loop
+    μ-loop
+    loop-holds
+    reseal-one-requires
+    add-i
+    loop-less
+    loop-again
+    same-length
+    same-length-2
+    same-length-3
+    same-length-4
+    same-length-5
+    returns)

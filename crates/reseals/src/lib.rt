@@ -1,0 +1,131 @@
+// Resealing: the unused records of a table, each opened, its token taken through the block changes of a call, and sealed at the next counter.
+// Every function equals a definition of specs/ or of the scheme's Table at the standard primitives. Nothing is assumed.
+// What a token needs to work in is made once a call and lent to every token; a block change that comes alone needs none.
+ghost use mathlib.Core.Path.{_≡_};
+ghost use mathlib.Core.Logic.{_≢_};
+ghost use mathlib.Core.Bool.{true};
+ghost use mathlib.Core.List.{List};
+ghost use Prim.Native.Nat.{ℕ, _+_, _*_, _-_, _≤_, _<_};
+ghost use lib.ListN.{length};
+ghost use Rattle.octets.specs.Octets.{put};
+ghost use Rattle.scheme.specs.Records.{recordAt};
+ghost use Rattle.scheme.specs.Table as T;
+ghost use Rattle.standard.specs.Standard.{standard};
+ghost use Rattle.records.specs.Fields.{cardOf};
+ghost use Rattle.tokens.specs.Keyed.{Keyed};
+ghost use Rattle.works.specs.Items.{itemsOf, Lent, Room};
+ghost use Rattle.reseals.specs.Resealed.{Opens, Shaped, resealedUnder};
+
+// Reseals record i, which opens: its token is opened, changed and sealed at the next counter. The other records keep their bytes.
+fn reseal_one(
+    keys: tokens::Keys,
+    c: records::Card,
+    work: works::Work,
+    old: &[u8],
+    new: &[u8],
+    i: counts::Token,
+    table: &mut [u8],
+    walks: &mut [u16],
+    starts: &mut [u64],
+    ends: &mut [u64],
+    p: &mut [u8],
+)
+    requires { ⌜ (c .counter < 4294967295) × Shaped c work × Lent work (now old) (now new) ⌝ }
+    requires { ⌜ (work .count ≢ 1 → Room (now walks) (now starts) (now ends) (now p)) ⌝ }
+    requires { ⌜ (1 ≤ i .0) × (i .0 ≤ 65536) × (i .0 * 63 ≤ length (now table)) ⌝ }
+    requires { ⌜ T.there (T.tokenIn standard (keys .k) (c .counter) (i .0) (recordAt (i .0) (now table))) ≡ true ⌝ }
+    ensures { λ _. ⌜ length (resealedUnder keys (cardOf c) (itemsOf work (now (old .entry)) (now (new .entry))) (i .0) (recordAt (i .0) (now (table .entry)))) ≡ 63 ⌝ }
+    ensures { λ _. ⌜ now (table .exit) ≡ put ((i .0 - 1) * 63) (resealedUnder keys (cardOf c) (itemsOf work (now (old .entry)) (now (new .entry))) (i .0) (recordAt (i .0) (now (table .entry)))) (now (table .entry)) ⌝ }
+{
+    let k = keys.k;
+    let w = keys.w;
+    let z = keys.z;
+    let x = seals::token_in(k, c.counter, i, table);
+    let y = works::worked(w, z, i, work, old, new, x, walks, starts, ends, p);
+    seals::seal_token(k, c.counter + 1, i, y, table);
+}
+
+// Reseals the unused records, each of which opens, in the room that is lent.
+fn reseal_in(
+    keys: tokens::Keys,
+    c: records::Card,
+    work: works::Work,
+    old: &[u8],
+    new: &[u8],
+    table: &mut [u8],
+    walks: &mut [u16],
+    starts: &mut [u64],
+    ends: &mut [u64],
+    p: &mut [u8],
+)
+    requires { ⌜ Opens (keys .k) c (now table) × Shaped c work × Lent work (now old) (now new) ⌝ }
+    requires { ⌜ (work .count ≢ 1 → Room (now walks) (now starts) (now ends) (now p)) ⌝ }
+    ensures { λ _. ⌜ ((master : List ℕ) → Keyed master (c .id) keys → now (table .exit) ≡ T.reseal standard master (cardOf c) (itemsOf work (now (old .entry)) (now (new .entry))) (c .tokens + 1 - c .next) (c .next) (now (table .entry))) ⌝ }
+{
+    let mut i = c.next;
+    while i <= c.tokens {
+        reseal_one(
+            keys,
+            c,
+            work,
+            old,
+            new,
+            counts::Token(i),
+            table,
+            walks,
+            starts,
+            ends,
+            p,
+        );
+        i += 1;
+    }
+}
+
+// Reseals the unused records, each of which opens, whether they draw a changed block or not. Spent records keep their bytes.
+pub fn reseal(
+    keys: tokens::Keys,
+    c: records::Card,
+    work: works::Work,
+    old: &[u8],
+    new: &[u8],
+    table: &mut [u8],
+)
+    requires { ⌜ Opens (keys .k) c (now table) × Shaped c work × Lent work (now old) (now new) ⌝ }
+    ensures { λ _. ⌜ ((master : List ℕ) → Keyed master (c .id) keys → now (table .exit) ≡ T.reseal standard master (cardOf c) (itemsOf work (now (old .entry)) (now (new .entry))) (c .tokens + 1 - c .next) (c .next) (now (table .entry))) ⌝ }
+{
+    if work.count == 1 {
+        let mut walks = [0u16; 1];
+        let mut starts = [0u64; 1];
+        let mut ends = [0u64; 1];
+        let mut p = [0u8; 1];
+        reseal_in(
+            keys,
+            c,
+            work,
+            old,
+            new,
+            table,
+            &mut walks,
+            &mut starts,
+            &mut ends,
+            &mut p,
+        );
+        return;
+    }
+    let mut walks = [0u16; 8192];
+    let mut starts = [0u64; 256];
+    let mut ends = [0u64; 256];
+    let mut p = [0u8; sums::ROOM];
+    reseal_in(
+        keys,
+        c,
+        work,
+        old,
+        new,
+        table,
+        &mut walks,
+        &mut starts,
+        &mut ends,
+        &mut p,
+    )
+}

@@ -1,0 +1,119 @@
+-- Each refusal's small input, and pairs of faults in the order of "Turned away", computed over the stand-ins. Assumes nothing.
+--   small-inputs, loads, positions   the column "Small input", the limits that moved, and calls that are accepted
+--   in-order, loads-in-order         pairs of faults
+use Prim.Native.Nat.{_+_, _*_}
+use mathlib.Core.Path.{_≡_, refl}
+use mathlib.Core.List.{[], _∷_}
+use lib.ListN.{set, replicate}
+use Rattle.octets.specs.Octets.{le, be, ofLe, ofBe, same, xors}
+use Rattle.scheme.specs.Ladder.{first}
+use Rattle.scheme.specs.Lists.{recordsFrom, xorBelow}
+use Rattle.scheme.specs.Records.{cardBytes, readCard, shapeFits, tokenFits, blocksFit, cardFits, headFits, clearBytes, nonceBytes, recordAt}
+use Rattle.scheme.specs.Records.{messageBytes, readMessage, messageFits}
+use Rattle.scheme.specs.Tokens.{blockIn, columnsOf, blockAt, indexOf, keyW, keyZ, keyK, drawKey, hashKey, blockHash}
+use Rattle.scheme.specs.Tokens.{columnHash, drawnRow, rowDigest, digest, token}
+use Rattle.scheme.specs.Table.{sealedRecord, bodyIn, tokenIn, firstBad}
+use Rattle.scheme.specs.Calls.{setUpCode, unusedBad, changeCode, updateCode, deleteCode, appendCode, loadCode, positionsFor, positionsCode, drawCode, messageFor}
+use Rattle.scheme.specs.Calls.{drawMessage, judgeFault, judgeCode, proveCode}
+use Rattle.scheme.proofs.Computed.{standIn, key, id, cardIn, cardOf, second, tableOf, flipped, bothFlipped, blank, drawn}
+
+pub small-inputs : (updateCode standIn key (replicate 42 0) (tableOf 0) 1 (5 ∷ []) (9 ∷ []) ≡ 1)
+    × (updateCode standIn key (second (cardOf 1 2 0 1 0)) (tableOf 0) 1 (5 ∷ []) (9 ∷ []) ≡ 2)
+    × (setUpCode standIn key id 1 5 6 1 5 (replicate 5 0) (replicate 43 0) (replicate 63 0) ≡ 3)
+    × (updateCode standIn key (cardOf 1 2 0 1 0) (tableOf 0) 0 (5 ∷ []) (9 ∷ []) ≡ 4)
+    × (updateCode standIn key (cardOf 1 2 0 1 0) (tableOf 0) 3 (5 ∷ []) (9 ∷ []) ≡ 4)
+    × (appendCode standIn key (cardOf 1 16777216 0 1 0) (tableOf 0) (9 ∷ []) ≡ 5)
+    × (drawCode standIn key (cardOf 1 2 0 3 0) blank ≡ 6)
+    × (updateCode standIn key (cardOf 1 2 0 1 0) (flipped 0) 1 (5 ∷ []) (9 ∷ []) ≡ 7 + 256 * 2)
+    × (deleteCode standIn key (cardOf 1 2 0 1 0) (bothFlipped 0) 1 (5 ∷ []) ≡ 7 + 256 * 1)
+    × (appendCode standIn key (cardOf 1 2 0 2 1) (tableOf 0) (9 ∷ []) ≡ 8)
+    × (judgeCode standIn key (cardOf 1 2 0 1 0) [] ≡ 9)
+    × (updateCode standIn key (cardOf 1 2 4294967295 1 0) (tableOf 4294967295) 1 (5 ∷ []) (9 ∷ []) ≡ 10)
+    × (updateCode standIn key (cardOf 1 2 0 1 0) (tableOf 0) 1 (5 ∷ []) (9 ∷ []) ≡ 0)
+    × (deleteCode standIn key (cardOf 1 2 0 1 0) (tableOf 0) 2 (6 ∷ []) ≡ 0)
+    × (appendCode standIn key (cardOf 1 2 0 1 0) (tableOf 0) (9 ∷ []) ≡ 0)
+    × (updateCode standIn key (cardOf 1 2 0 3 0) (bothFlipped 0) 1 (5 ∷ []) (9 ∷ []) ≡ 0)
+unfolding be le ofBe ofLe same xors first xorBelow recordsFrom cardBytes readCard shapeFits tokenFits blocksFit cardFits headFits clearBytes
+    nonceBytes recordAt columnsOf blockIn blockAt indexOf keyW keyZ keyK drawKey hashKey blockHash columnHash drawnRow rowDigest digest token sealedRecord
+    bodyIn tokenIn firstBad unusedBad setUpCode changeCode drawCode judgeFault judgeCode
+small-inputs = (refl, refl, refl, refl, refl, refl, refl, refl, refl, refl, refl, refl, refl, refl, refl, refl)
+
+-- "Order: 1 for buffers of fixed size, 2, 3, 1 for sizes that follow from fields, then 8 or 9, 6, 4, 5, 10, 7"
+pub in-order : (updateCode standIn [] (second (cardOf 1 2 0 1 0)) (tableOf 0) 1 (5 ∷ []) (9 ∷ []) ≡ 1)
+    × (updateCode standIn key (second (cardOf 3 2 0 1 0)) (tableOf 0) 1 (5 ∷ []) (9 ∷ []) ≡ 2)
+    × (updateCode standIn key (cardOf 3 2 0 1 0) [] 1 (5 ∷ []) (9 ∷ []) ≡ 3)
+    × (updateCode standIn key (cardOf 1 2 0 2 1) (tableOf 0) 1 (5 ∷ []) [] ≡ 1)
+    × (updateCode standIn key (cardOf 1 2 0 2 1) (tableOf 0) 1 [] (9 ∷ []) ≡ 1)
+    × (updateCode standIn key (cardOf 1 2 0 2 1) [] 1 (5 ∷ []) (9 ∷ []) ≡ 1)
+    × (updateCode standIn key (cardOf 1 2 0 2 1) (tableOf 0) 0 (5 ∷ []) (9 ∷ []) ≡ 8)
+    × (updateCode standIn key (cardOf 1 2 4294967295 1 0) (tableOf 4294967295) 0 (5 ∷ []) (9 ∷ []) ≡ 4)
+    × (updateCode standIn key (cardOf 1 2 4294967295 1 0) (flipped 4294967295) 1 (5 ∷ []) (9 ∷ []) ≡ 10)
+    × (appendCode standIn key (cardOf 1 16777216 0 2 1) (tableOf 0) (9 ∷ []) ≡ 8)
+    × (appendCode standIn key (cardOf 1 16777216 4294967295 1 0) (tableOf 4294967295) (9 ∷ []) ≡ 5)
+    × (drawCode standIn key (second (cardOf 1 2 0 1 0)) [] ≡ 1)
+    × (drawCode standIn key (second (cardOf 3 2 0 1 0)) blank ≡ 2)
+    × (drawCode standIn key (cardOf 3 2 0 2 1) blank ≡ 3)
+    × (drawCode standIn key (cardOf 1 2 0 3 2) blank ≡ 8)
+    × (judgeCode standIn key (second (42 ∷ cardOf 1 2 0 1 0)) [] ≡ 1)
+    × (judgeCode standIn key (second (cardOf 3 2 0 1 0)) [] ≡ 2)
+    × (judgeCode standIn key (cardOf 3 2 0 1 0) [] ≡ 3)
+    × (setUpCode standIn [] id 1 5 6 1 5 [] (replicate 43 0) [] ≡ 1)
+    × (setUpCode standIn key id 1 5 6 1 5 [] (replicate 43 0) [] ≡ 3)
+    × (setUpCode standIn key id 1 5 5 1 5 [] (replicate 43 0) (replicate 63 0) ≡ 1)
+    × (proveCode standIn (second drawn) [] [] [] ≡ 1)
+    × (proveCode standIn (set (second drawn) 22 3) [] [] (replicate 110 0) ≡ 2)
+    × (proveCode standIn (set drawn 22 3) [] [] (replicate 110 0) ≡ 3)
+    × (proveCode standIn drawn (5 ∷ 6 ∷ []) (replicate 62 0) (replicate 110 0) ≡ 1)
+    × (proveCode standIn drawn (5 ∷ 6 ∷ []) (replicate 63 0) (replicate 110 0) ≡ 0)
+unfolding be le ofBe ofLe same xors first xorBelow recordsFrom cardBytes readCard shapeFits tokenFits blocksFit cardFits headFits clearBytes
+    nonceBytes recordAt messageBytes readMessage messageFits columnsOf blockIn blockAt indexOf keyW keyZ keyK drawKey hashKey blockHash columnHash
+    drawnRow rowDigest digest token sealedRecord bodyIn tokenIn firstBad unusedBad setUpCode changeCode drawCode messageFor drawMessage judgeFault
+    judgeCode proveCode
+in-order = (refl, refl, refl, refl, refl, refl, refl, refl, refl, refl, refl, refl, refl, refl, refl, refl, refl, refl, refl, refl, refl, refl, refl, refl, refl, refl)
+
+-- #101: "a load of no bytes or of a length that B doesn't divide (12)"; "code 5 covers one passing the most n"; "Set-up is told n, from 1";
+-- "The least n becomes 1 everywhere": set-up, card and message, each with the least number of blocks, one below it, the most and one above
+pub loads : (loadCode standIn key (cardOf 1 2 0 1 0) (tableOf 0) [] ≡ 12)
+    × (loadCode standIn key (cardIn 2 1 2 0 1 0) (tableOf 0) (8 ∷ []) ≡ 12)
+    × (loadCode standIn key (cardIn 2 1 2 0 1 0) (tableOf 0) (8 ∷ 9 ∷ 8 ∷ []) ≡ 12)
+    × (loadCode standIn key (cardIn 2 1 2 0 1 0) (tableOf 0) (8 ∷ 9 ∷ 8 ∷ 9 ∷ []) ≡ 0)
+    × (loadCode standIn key (cardOf 1 16777215 0 1 0) (tableOf 0) (8 ∷ 9 ∷ []) ≡ 5)
+    × (loadCode standIn key (cardOf 1 16777214 0 1 0) (tableOf 0) (8 ∷ 9 ∷ []) ≡ 0)
+    × (loadCode standIn key (cardOf 1 2 0 1 0) (flipped 0) (8 ∷ 9 ∷ []) ≡ 7 + 256 * 2)
+    × (loadCode standIn key (cardOf 1 1 0 1 0) (tableOf 0) (8 ∷ []) ≡ 0)
+    × (loadCode standIn key (cardOf 1 0 0 1 0) (tableOf 0) (8 ∷ []) ≡ 3)
+    × (loadCode standIn key (cardOf 1 16777217 0 1 0) (tableOf 0) (8 ∷ []) ≡ 3)
+    × (setUpCode standIn key id 1 5 5 1 0 [] (replicate 43 0) (replicate 63 0) ≡ 3)
+    × (setUpCode standIn key id 1 5 5 1 1 (8 ∷ []) (replicate 43 0) (replicate 63 0) ≡ 0)
+    × (setUpCode standIn key id 1 5 5 1 16777216 [] (replicate 43 0) (replicate 63 0) ≡ 1)
+    × (setUpCode standIn key id 1 5 5 1 16777217 [] (replicate 43 0) (replicate 63 0) ≡ 3)
+    × (proveCode standIn (set drawn 26 1) (5 ∷ []) (replicate 63 0) (replicate 110 0) ≡ 0)
+    × (proveCode standIn (set drawn 26 0) [] (replicate 63 0) (replicate 110 0) ≡ 3)
+unfolding be le ofBe ofLe same xors first xorBelow recordsFrom cardBytes readCard shapeFits tokenFits blocksFit cardFits headFits clearBytes
+    nonceBytes recordAt messageBytes readMessage messageFits columnsOf blockIn blockAt indexOf keyW keyZ keyK drawKey hashKey blockHash columnHash
+    drawnRow rowDigest digest token sealedRecord bodyIn tokenIn firstBad unusedBad setUpCode changeCode drawCode messageFor drawMessage judgeFault
+    judgeCode proveCode
+loads = (refl, refl, refl, refl, refl, refl, refl, refl, refl, refl, refl, refl, refl, refl, refl, refl)
+
+-- 12 stands behind 8 and before 5, 5 before 10, 10 before 7
+pub loads-in-order : (loadCode standIn key (second (cardOf 3 2 0 1 0)) (tableOf 0) [] ≡ 2)
+    × (loadCode standIn key (cardOf 3 2 0 1 0) [] [] ≡ 3)
+    × (loadCode standIn key (cardOf 1 2 0 2 1) [] [] ≡ 1)
+    × (loadCode standIn key (cardOf 1 2 0 2 1) (tableOf 0) [] ≡ 8)
+    × (loadCode standIn key (cardOf 1 16777216 4294967295 1 0) (tableOf 4294967295) [] ≡ 12)
+    × (loadCode standIn key (cardIn 2 1 16777216 0 1 0) (tableOf 0) (8 ∷ 9 ∷ 8 ∷ []) ≡ 12)
+    × (loadCode standIn key (cardOf 1 16777216 4294967295 1 0) (tableOf 4294967295) (8 ∷ []) ≡ 5)
+    × (loadCode standIn key (cardOf 1 2 4294967295 1 0) (flipped 4294967295) (8 ∷ []) ≡ 10)
+unfolding be le ofBe ofLe same xors first xorBelow recordsFrom cardBytes readCard shapeFits tokenFits blocksFit cardFits headFits clearBytes
+    nonceBytes recordAt columnsOf blockIn blockAt indexOf keyW keyZ keyK drawKey hashKey blockHash columnHash drawnRow rowDigest digest token sealedRecord
+    bodyIn tokenIn firstBad unusedBad setUpCode changeCode drawCode judgeFault judgeCode
+loads-in-order = (refl, refl, refl, refl, refl, refl, refl, refl)
+
+-- "positions as r × planned rows / present blocks, rounded up"; "r is at most 512 and the present blocks, and these at most the planned rows, else 3"; "after 3,
+-- more than 512 positions (13)"
+pub positions : (positionsCode 2 5 3 ≡ 256 * 4) × (positionsCode 1 1 1 ≡ 256 * 1) × (positionsCode 512 1048576 1048576 ≡ 256 * 512)
+    × (positionsCode 1 512 1 ≡ 256 * 512) × (positionsCode 1 513 1 ≡ 13) × (positionsCode 512 513 512 ≡ 13)
+    × (positionsCode 0 5 3 ≡ 3) × (positionsCode 4 5 3 ≡ 3) × (positionsCode 513 1000 600 ≡ 3) × (positionsCode 1 5 0 ≡ 3) × (positionsCode 2 5 6 ≡ 3)
+    × (positionsCode 1 0 0 ≡ 3) × (positionsCode 1 1048577 1 ≡ 3)
+unfolding first positionsFor positionsCode
+positions = (refl, refl, refl, refl, refl, refl, refl, refl, refl, refl, refl, refl, refl)

@@ -1,0 +1,168 @@
+/* See parties.h. */
+#include "parties.h"
+
+#include <stdlib.h>
+
+/* An example key, for this program only. A real one is random, secret, and set up once for each file id. */
+static const char example_master[] = "Example key: for this demo only!";
+
+uint64_t in_card(size_t at, unsigned width)
+{
+    struct bytes card = read_file("owner/card");
+    uint64_t number = 0;
+    for (unsigned i = 0; i < width; i++)
+        number = number << 8 | card.at[at + i];
+    free(card.at);
+    return number;
+}
+
+/* ---- The host ---- */
+
+/* Gives out a block; puts a block in the place of another. */
+static void host_sends(uint64_t number, struct bytes block)
+{
+    read_part("host/blocks", (number - 1) * block.length, block);
+}
+
+static void host_replaces(uint64_t number, struct bytes block)
+{
+    write_part("host/blocks", (number - 1) * block.length, block);
+}
+
+uint64_t host_proves(void)
+{
+    struct bytes message = read_file("host/message"), blocks = read_file("host/blocks"), table = read_file("host/table");
+    struct bytes reply = room(LEGBARO_REPLY_BYTES);
+    uint64_t result = legbaro_prove(LENT(message), LENT(blocks), LENT(table), LENT(reply));
+    write_file("host/reply", LENT(reply));
+    free(message.at);
+    free(blocks.at);
+    free(table.at);
+    free(reply.at);
+    return result;
+}
+
+/* ---- The owner: set-up ---- */
+
+void owner_begins(struct bytes blocks)
+{
+    write_file("owner/master", example_master, LEGBARO_MASTER_BYTES);
+    write_file("owner/blocks", LENT(blocks));
+}
+
+uint64_t owner_sets_up(const struct plan *plan)
+{
+    struct bytes master = read_file("owner/master"), blocks = read_file("owner/blocks");
+    struct bytes card = room(LEGBARO_CARD_BYTES), table = room(plan->tokens * LEGBARO_RECORD_BYTES);
+    uint64_t result = legbaro_set_up(LENT(master), (const uint8_t *)plan->id, LEGBARO_ID_BYTES, plan->block_bytes, plan->rows,
+                                     plan->positions, plan->tokens, blocks.length / plan->block_bytes, LENT(blocks), LENT(card),
+                                     LENT(table));
+    if (result == LEGBARO_OK) {
+        write_file("owner/card", LENT(card));
+        write_file("host/table", LENT(table));
+        write_file("host/blocks", LENT(blocks));
+    }
+    free(master.at);
+    free(blocks.at);
+    free(card.at);
+    free(table.at);
+    return result;
+}
+
+/* ---- The owner: changes ---- */
+
+/* What the owner needs for a change: its master and card, and the table, fetched from the host. */
+struct hand {
+    struct bytes master, card, table;
+};
+
+static struct hand owner_takes(void)
+{
+    struct hand hand = {read_file("owner/master"), read_file("owner/card"), read_file("host/table")};
+    return hand;
+}
+
+/* Keeps the card and sends the table back, where the change was accepted. */
+static void owner_puts_back(struct hand *hand, uint64_t result)
+{
+    if (result == LEGBARO_OK) {
+        write_file("owner/card", LENT(hand->card));
+        write_file("host/table", LENT(hand->table));
+    }
+    free(hand->master.at);
+    free(hand->card.at);
+    free(hand->table.at);
+}
+
+uint64_t owner_appends(struct bytes block)
+{
+    struct hand hand = owner_takes();
+    uint64_t result = legbaro_append(LENT(hand.master), LENT(hand.card), LENT(hand.table), LENT(block));
+    if (result == LEGBARO_OK)
+        add_to_file("host/blocks", LENT(block));
+    owner_puts_back(&hand, result);
+    return result;
+}
+
+uint64_t owner_loads(struct bytes blocks)
+{
+    struct hand hand = owner_takes();
+    uint64_t result = legbaro_load(LENT(hand.master), LENT(hand.card), LENT(hand.table), LENT(blocks));
+    if (result == LEGBARO_OK)
+        add_to_file("host/blocks", LENT(blocks));
+    owner_puts_back(&hand, result);
+    return result;
+}
+
+uint64_t owner_updates(uint64_t number, struct bytes block)
+{
+    struct hand hand = owner_takes();
+    struct bytes old = room(block.length);
+    host_sends(number, old);
+    uint64_t result = legbaro_update(LENT(hand.master), LENT(hand.card), LENT(hand.table), number, LENT(old), LENT(block));
+    if (result == LEGBARO_OK)
+        host_replaces(number, block);
+    owner_puts_back(&hand, result);
+    free(old.at);
+    return result;
+}
+
+uint64_t owner_deletes(uint64_t number)
+{
+    struct hand hand = owner_takes();
+    size_t block_bytes = in_card(LEGBARO_CARD_BLOCK_BYTES, 2);
+    struct bytes old = room(block_bytes), zeros = room(block_bytes);
+    host_sends(number, old);
+    uint64_t result = legbaro_delete(LENT(hand.master), LENT(hand.card), LENT(hand.table), number, LENT(old));
+    if (result == LEGBARO_OK)
+        host_replaces(number, zeros);
+    owner_puts_back(&hand, result);
+    free(old.at);
+    free(zeros.at);
+    return result;
+}
+
+/* ---- The owner: audits ---- */
+
+uint64_t owner_draws(void)
+{
+    struct bytes master = read_file("owner/master"), card = read_file("owner/card"), message = room(LEGBARO_MESSAGE_BYTES);
+    uint64_t result = legbaro_draw(LENT(master), LENT(card), LENT(message));
+    write_file("owner/card", LENT(card));
+    write_file("host/message", LENT(message));
+    free(master.at);
+    free(card.at);
+    free(message.at);
+    return result;
+}
+
+uint64_t owner_judges(void)
+{
+    struct bytes master = read_file("owner/master"), card = read_file("owner/card"), reply = read_file("host/reply");
+    uint64_t result = legbaro_judge(LENT(master), LENT(card), LENT(reply));
+    write_file("owner/card", LENT(card));
+    free(master.at);
+    free(card.at);
+    free(reply.at);
+    return result;
+}

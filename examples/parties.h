@@ -1,0 +1,41 @@
+/*
+ * Owner and host of one file, as two folders of real files. Functions named owner_ read the owner's files, and fetch from the host what an
+ * owner would fetch. Functions named host_ read the host's files alone. Each answers the number of the library's call that it makes.
+ */
+#ifndef PARTIES_H
+#define PARTIES_H
+
+#include "files.h"
+#include "legbaro.h"
+
+/* What a file is planned for. */
+struct plan {
+    const char *id; /* LEGBARO_ID_BYTES letters */
+    uint64_t block_bytes, rows, positions, tokens;
+};
+
+/* Gives the owner its key and the first blocks. */
+void owner_begins(struct bytes blocks);
+
+/* Makes card and table from these blocks, and sends table and blocks to the host. */
+uint64_t owner_sets_up(const struct plan *plan);
+
+/* Appends a block; loads one or more blocks, end to end. They go to the host where the call was accepted. */
+uint64_t owner_appends(struct bytes block);
+uint64_t owner_loads(struct bytes blocks);
+
+/* Fetches a block, and puts another or zero bytes in its place; the host does the same. */
+uint64_t owner_updates(uint64_t number, struct bytes block);
+uint64_t owner_deletes(uint64_t number);
+
+/* Draws a message and sends it to the host; judges the reply that the host sent. */
+uint64_t owner_draws(void);
+uint64_t owner_judges(void);
+
+/* Answers the message. The host has nothing but the message, its blocks and its table. */
+uint64_t host_proves(void);
+
+/* A number of the owner's card, at its offset of LEGBARO_CARD_.., with so many bytes. */
+uint64_t in_card(size_t at, unsigned width);
+
+#endif

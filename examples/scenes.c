@@ -1,0 +1,80 @@
+/* See scenes.h. */
+#define _XOPEN_SOURCE 700
+#include "scenes.h"
+
+#include <stdio.h>
+#include <unistd.h>
+
+static int others;
+
+struct bytes samples(unsigned bays, unsigned first_hour, unsigned hours)
+{
+    struct bytes blocks = room((size_t)hours * bays);
+    uint8_t *at = blocks.at;
+    for (unsigned hour = first_hour; hour < first_hour + hours; hour++)
+        for (unsigned bay = 0; bay < bays; bay++)
+            *at++ = (hour % TICKS_A_DAY) * 4 > (bay * 37 + hour * 11) % bays;
+    return blocks;
+}
+
+void tell(const char *step, uint64_t result, uint64_t expected)
+{
+    static const char *const results[] = {
+        [LEGBARO_OK] = "accepted",
+        [LEGBARO_WRONG_LENGTH] = "turned away: a buffer has another length",
+        [LEGBARO_WRONG_HEADER] = "turned away: no card or message of this version",
+        [LEGBARO_OUT_OF_LIMITS] = "turned away: a number is outside its limits",
+        [LEGBARO_NO_SUCH_BLOCK] = "turned away: there is no such block",
+        [LEGBARO_FILE_FULL] = "turned away: the file is full",
+        [LEGBARO_NO_TOKEN_LEFT] = "turned away: every token is spent",
+        [LEGBARO_BAD_RECORD] = "turned away: a record of the table does not open",
+        [LEGBARO_TOKEN_OPEN] = "turned away: a drawn token is not judged yet",
+        [LEGBARO_NONE_OPEN] = "turned away: no token is drawn",
+        [LEGBARO_COUNTER_AT_MOST] = "turned away: the counter is at its most",
+        [LEGBARO_REJECTED] = "REJECTED",
+        [LEGBARO_NOT_WHOLE_BLOCKS] = "turned away: these are not whole blocks",
+        [LEGBARO_TOO_MANY_POSITIONS] = "turned away: more than 512 positions",
+    };
+    printf("  %-56s %s\n", step, results[LEGBARO_CODE(result)]);
+    if (LEGBARO_CODE(result) != expected) {
+        printf("    expected: %s\n", results[expected]);
+        others++;
+    }
+}
+
+int surprises(void)
+{
+    return others;
+}
+
+void tell_files(const char *party)
+{
+    static const char *const names[] = {"master", "card", "blocks", "table"};
+    char name[32];
+    printf("  the %s holds:", party);
+    for (size_t i = 0; i < sizeof names / sizeof *names; i++) {
+        snprintf(name, sizeof name, "%s/%s", party, names[i]);
+        if (access(name, F_OK) == 0)
+            printf(" %s (%lu bytes)", names[i], (unsigned long)size_of(name));
+    }
+    putchar('\n');
+}
+
+void tell_card(void)
+{
+    unsigned long changes = (unsigned long)in_card(LEGBARO_CARD_COUNTER, 8);
+    printf("  the card says: %lu blocks, %lu change%s so far, token %lu of %lu is drawn next\n",
+           (unsigned long)in_card(LEGBARO_CARD_BLOCKS, 4), changes, changes == 1 ? "" : "s",
+           (unsigned long)in_card(LEGBARO_CARD_NEXT, 4), (unsigned long)in_card(LEGBARO_CARD_TOKENS, 4));
+}
+
+void draw(void)
+{
+    tell("the owner draws a token and sends the message:", owner_draws(), LEGBARO_OK);
+}
+
+void prove_and_judge(uint64_t verdict)
+{
+    tell("the host proves from message, blocks and table:", host_proves(), LEGBARO_OK);
+    tell("the owner judges the reply:", owner_judges(), verdict);
+}

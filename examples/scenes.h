@@ -1,0 +1,27 @@
+/* What the scenes share: the car parks' samples, what is told, and the steps of an audit. */
+#ifndef SCENES_H
+#define SCENES_H
+
+#include "parties.h"
+
+enum { TICKS_A_DAY = 24, A_WEEK = 7 * TICKS_A_DAY };
+
+/* A second car park, with a month in one load: month.c. */
+void new_centre(void);
+
+/* The samples of so many hours, end to end, counted from a car park's first: which of its bays are taken, a byte for each. */
+struct bytes samples(unsigned bays, unsigned first_hour, unsigned hours);
+
+/* Says how a step came out, and notes whether that is what a planner expects; answers how many steps came out otherwise. */
+void tell(const char *step, uint64_t result, uint64_t expected);
+int surprises(void);
+
+/* Says which files a party has and how large they are; what the card says. */
+void tell_files(const char *party);
+void tell_card(void);
+
+/* The first step of an audit, and the other two with the verdict that is expected. */
+void draw(void);
+void prove_and_judge(uint64_t verdict);
+
+#endif

@@ -1,0 +1,182 @@
+/* The second implementation's changes: update, delete, append and load. See second.h. */
+#include "second_parts.h"
+
+#include <stdlib.h>
+
+/* ---- What is turned away ---- */
+
+/* "1 for sizes that follow from fields": of what is handed over. A load's length is looked at later. */
+static int handed_fits(const struct edit *edit, const struct card *c)
+{
+    int has_old = edit->kind == EDIT_UPDATE || edit->kind == EDIT_DELETE;
+    int has_new = edit->kind == EDIT_UPDATE || edit->kind == EDIT_APPEND;
+    return (!has_old || edit->old_length == c->B) && (!has_new || edit->new_length == c->B);
+}
+
+/* "4, 5"; of a load "just before 5, a load of no bytes or of a length that B doesn't divide (12)", and "code 5 covers one passing the
+ * most n" */
+static uint64_t place_fault(const struct edit *edit, const struct card *c)
+{
+    switch (edit->kind) {
+    case EDIT_APPEND:
+        return c->n == LEGBARO_MOST_BLOCKS ? LEGBARO_FILE_FULL : LEGBARO_OK;
+    case EDIT_LOAD:
+        if (edit->new_length == 0 || edit->new_length % c->B != 0)
+            return LEGBARO_NOT_WHOLE_BLOCKS;
+        return edit->new_length / c->B > LEGBARO_MOST_BLOCKS - c->n ? LEGBARO_FILE_FULL : LEGBARO_OK;
+    default:
+        return within(1, edit->m, c->n) ? LEGBARO_OK : LEGBARO_NO_SUCH_BLOCK;
+    }
+}
+
+uint64_t second_change_fault(const struct edit *edit, size_t master_length, const uint8_t *card, size_t card_length,
+                             size_t table_length)
+{
+    if (master_length != LEGBARO_MASTER_BYTES || card_length != LEGBARO_CARD_BYTES)
+        return LEGBARO_WRONG_LENGTH;
+    if (card_fault(card))
+        return card_fault(card);
+    struct card c = second_read_card(card);
+    if (table_length != c.t * LEGBARO_RECORD_BYTES || !handed_fits(edit, &c))
+        return LEGBARO_WRONG_LENGTH;
+    if (c.open != 0)
+        return LEGBARO_TOKEN_OPEN;
+    if (place_fault(edit, &c))
+        return place_fault(edit, &c);
+    return c.ctr == LEGBARO_MOST_COUNTER ? LEGBARO_COUNTER_AT_MOST : LEGBARO_OK;
+}
+
+/* ---- The blocks that are changed ---- */
+
+/* Block m was old_block, null for none, and becomes new_block. */
+struct block_change {
+    uint64_t m;
+    const uint8_t *old_block, *new_block;
+};
+
+/* A change is a list of these. */
+struct work {
+    struct block_change *items;
+    size_t count;
+};
+
+static struct block_change only_change(const struct edit *edit, const struct card *c)
+{
+    static const uint8_t zeros[LEGBARO_MOST_BLOCK_BYTES];
+    struct block_change item = {edit->m, edit->old_block, edit->kind == EDIT_DELETE ? zeros : edit->new_blocks};
+    if (edit->kind == EDIT_APPEND) {
+        item.m = c->n + 1;
+        item.old_block = NULL;
+    }
+    return item;
+}
+
+/* The list of an edit without a fault; its items are to be freed. */
+static struct work work_of(const struct edit *edit, const struct card *c)
+{
+    struct work work = {.count = edit->kind == EDIT_LOAD ? edit->new_length / c->B : 1};
+    work.items = malloc(work.count * sizeof *work.items);
+    must(work.items != NULL);
+    if (edit->kind != EDIT_LOAD) {
+        work.items[0] = only_change(edit, c);
+        return work;
+    }
+    for (size_t e = 0; e < work.count; e++)
+        work.items[e] = (struct block_change){c->n + 1 + e, NULL, edit->new_blocks + e * c->B};
+    return work;
+}
+
+/* ---- Carrying a change out ---- */
+
+/* Opens an unused record, xors the hashes of old and new block into its token for every item whose row it draws, and seals it at the next
+ * counter. */
+static void reseal(uint8_t *record, const struct card *c, uint64_t i, const struct work *work)
+{
+    uint8_t k[KEY_BYTES], hash_key[KEY_BYTES], token[TOKEN_BYTES];
+    int have_hash_key = 0;
+    must(open_record(record, c->ctr, i, token));
+    draw_key_of(i, k);
+    use_draw_key(k);
+    for (const struct block_change *item = work->items; item < work->items + work->count; item++) {
+        uint64_t j = permuted_back(c->d, (item->m - 1) % c->d) + 1, index = (item->m - 1) / c->d * c->d + j;
+        if (j > c->r)
+            continue;
+        if (!have_hash_key)
+            hash_key_of(i, hash_key);
+        have_hash_key = 1;
+        if (item->old_block)
+            mix_block(token, hash_key, index, item->old_block, c->B);
+        mix_block(token, hash_key, index, item->new_block, c->B);
+    }
+    seal(record, c->ctr + 1, i, token);
+}
+
+/* Writes card and table after a list of block changes. */
+static void carry_out(const struct work *work, struct card c, uint8_t *card, uint8_t *table)
+{
+    for (uint64_t i = c.next; i <= c.t; i++)
+        reseal(record_at(table, i), &c, i, work);
+    for (size_t e = 0; e < work->count; e++)
+        if (!work->items[e].old_block)
+            c.n++;
+    c.ctr++;
+    second_write_card(card, &c);
+}
+
+/* The call: its fault, 7 with the lowest unused token whose record does not open, or the change carried out. */
+static uint64_t change(const struct edit *edit, const uint8_t *master, size_t master_length, uint8_t *card, size_t card_length,
+                       uint8_t *table, size_t table_length)
+{
+    uint8_t token[TOKEN_BYTES];
+    uint64_t fault = second_change_fault(edit, master_length, card, card_length, table_length);
+    if (fault)
+        return fault;
+    struct card c = second_read_card(card);
+    use_keys(master, c.id);
+    for (uint64_t i = c.next; i <= c.t; i++)
+        if (!open_record(record_at(table, i), c.ctr, i, token))
+            return LEGBARO_BAD_RECORD + 256 * i;
+    struct work work = work_of(edit, &c);
+    carry_out(&work, c, card, table);
+    free(work.items);
+    return LEGBARO_OK;
+}
+
+uint64_t second_update(const uint8_t *master, size_t master_length,
+                       uint8_t *card, size_t card_length,
+                       uint8_t *table, size_t table_length,
+                       uint64_t m,
+                       const uint8_t *old_block, size_t old_block_length,
+                       const uint8_t *new_block, size_t new_block_length)
+{
+    struct edit edit = {EDIT_UPDATE, m, old_block, old_block_length, new_block, new_block_length};
+    return change(&edit, master, master_length, card, card_length, table, table_length);
+}
+
+uint64_t second_delete(const uint8_t *master, size_t master_length,
+                       uint8_t *card, size_t card_length,
+                       uint8_t *table, size_t table_length,
+                       uint64_t m,
+                       const uint8_t *old_block, size_t old_block_length)
+{
+    struct edit edit = {EDIT_DELETE, m, old_block, old_block_length, NULL, 0};
+    return change(&edit, master, master_length, card, card_length, table, table_length);
+}
+
+uint64_t second_append(const uint8_t *master, size_t master_length,
+                       uint8_t *card, size_t card_length,
+                       uint8_t *table, size_t table_length,
+                       const uint8_t *new_block, size_t new_block_length)
+{
+    struct edit edit = {EDIT_APPEND, 0, NULL, 0, new_block, new_block_length};
+    return change(&edit, master, master_length, card, card_length, table, table_length);
+}
+
+uint64_t second_load(const uint8_t *master, size_t master_length,
+                     uint8_t *card, size_t card_length,
+                     uint8_t *table, size_t table_length,
+                     const uint8_t *blocks, size_t blocks_length)
+{
+    struct edit edit = {EDIT_LOAD, 0, NULL, 0, blocks, blocks_length};
+    return change(&edit, master, master_length, card, card_length, table, table_length);
+}

@@ -1,0 +1,77 @@
+/*
+ * What the files of the second implementation share. Tests use second.h alone.
+ *
+ *   second_records.c       numbers and bytes, card and message, limits
+ *   second_permutation.c   the permutation P
+ *   second_tokens.c        keys, tokens, token records
+ *   second_changes.c       update, delete, append, load
+ *   second_audits.c        set-up, draw, judge, the host's proof
+ *   second_plans.c         positions
+ */
+#ifndef SECOND_PARTS_H
+#define SECOND_PARTS_H
+
+#include "second.h"
+
+enum { KEY_BYTES = 32, TOKEN_BYTES = 32, NONCE_BYTES = 12 };
+
+struct message {
+    uint8_t id[LEGBARO_ID_BYTES];
+    uint64_t i, B, d, r, n;
+    uint8_t k[KEY_BYTES], c[KEY_BYTES];
+};
+
+/* libcrypto fails only where it has no memory, and then nothing can be compared. */
+void must(int done);
+
+/* ---- second_records.c ---- */
+
+/* Writes a number as `width` bytes, big-endian, or bytes, and answers the place behind them. */
+uint8_t *put(uint8_t *at, unsigned width, uint64_t value);
+uint8_t *put_bytes(uint8_t *at, const uint8_t *bytes, size_t length);
+
+/* The number of `width` bytes, big-endian, or a copy of bytes; the place moves behind them. */
+uint64_t take(const uint8_t **at, unsigned width);
+void take_bytes(const uint8_t **at, uint8_t *bytes, size_t length);
+
+/* The length field and version of a record of `length` bytes in all: written, looked at, and the place behind them. */
+uint8_t *put_head(uint8_t *at, size_t length);
+int head_fits(const uint8_t *bytes, size_t length);
+const uint8_t *behind_head(const uint8_t *bytes);
+
+struct message read_message(const uint8_t *bytes);
+void write_message(uint8_t *bytes, const struct message *m);
+
+/* Limits: of any number, of B, d and r together, of a message, and the code that the card itself gives (2, then 3). */
+int within(uint64_t least, uint64_t x, uint64_t most);
+int shape_fits(uint64_t B, uint64_t d, uint64_t r);
+int message_fits(const struct message *m);
+uint64_t card_fault(const uint8_t *card);
+
+/* ---- second_permutation.c ---- */
+
+void permutation_start(void);
+void permutation_end(void);
+
+/* P under the key that was put in use last. */
+void use_draw_key(const uint8_t *key);
+uint64_t permuted(uint64_t d, uint64_t x);
+uint64_t permuted_back(uint64_t d, uint64_t x);
+
+/* ---- second_tokens.c ---- */
+
+/* Puts W, Z and K of a file in use. Then the keys k and c of token i. */
+void use_keys(const uint8_t *master, const uint8_t *id);
+void draw_key_of(uint64_t i, uint8_t *k);
+void hash_key_of(uint64_t i, uint8_t *c);
+
+/* Xors SHA-256(c, index as four bytes, block) into a token; the token under k and c over n blocks. */
+void mix_block(uint8_t *token, const uint8_t *c, uint64_t index, const uint8_t *block, size_t B);
+void digest(const uint8_t *k, const uint8_t *c, uint64_t d, uint64_t r, size_t B, uint64_t n, const uint8_t *blocks, uint8_t *token);
+
+/* Record i of a table: its place, sealed with a token at a counter, and whether it opens there, with its token where it does. */
+uint8_t *record_at(uint8_t *table, uint64_t i);
+void seal(uint8_t *record, uint64_t ctr, uint64_t i, const uint8_t *token);
+int open_record(const uint8_t *record, uint64_t ctr, uint64_t i, uint8_t *token);
+
+#endif

@@ -1,0 +1,141 @@
+/* The second implementation's records: numbers and bytes, card and message, and their limits. See second_parts.h. */
+#include "second_parts.h"
+
+#include <string.h>
+
+enum { LENGTH_FIELD = 2, VERSION = 1 };
+
+/* ---- Numbers and bytes, one behind the other ---- */
+
+uint8_t *put(uint8_t *at, unsigned width, uint64_t value)
+{
+    for (unsigned i = 0; i < width; i++)
+        at[i] = (uint8_t)(value >> (8 * (width - 1 - i)));
+    return at + width;
+}
+
+uint8_t *put_bytes(uint8_t *at, const uint8_t *bytes, size_t length)
+{
+    memcpy(at, bytes, length);
+    return at + length;
+}
+
+uint64_t take(const uint8_t **at, unsigned width)
+{
+    uint64_t value = 0;
+    for (unsigned i = 0; i < width; i++)
+        value = value << 8 | *(*at)++;
+    return value;
+}
+
+void take_bytes(const uint8_t **at, uint8_t *bytes, size_t length)
+{
+    memcpy(bytes, *at, length);
+    *at += length;
+}
+
+/* "Each begins with a two-byte length of what follows, then version 1": of a record of `length` bytes in all. */
+uint8_t *put_head(uint8_t *at, size_t length)
+{
+    return put(put(at, LENGTH_FIELD, length - LENGTH_FIELD), 1, VERSION);
+}
+
+int head_fits(const uint8_t *bytes, size_t length)
+{
+    return take(&bytes, LENGTH_FIELD) == length - LENGTH_FIELD && take(&bytes, 1) == VERSION;
+}
+
+const uint8_t *behind_head(const uint8_t *bytes)
+{
+    return bytes + LENGTH_FIELD + 1;
+}
+
+/* ---- Card and message ---- */
+
+struct card second_read_card(const uint8_t *bytes)
+{
+    struct card c;
+    const uint8_t *at = behind_head(bytes);
+    take_bytes(&at, c.id, sizeof c.id);
+    c.B = take(&at, 2);
+    c.d = take(&at, 4);
+    c.r = take(&at, 2);
+    c.t = take(&at, 4);
+    c.n = take(&at, 4);
+    c.ctr = take(&at, 8);
+    c.next = take(&at, 4);
+    c.open = take(&at, 4);
+    return c;
+}
+
+void second_write_card(uint8_t *bytes, const struct card *c)
+{
+    uint8_t *at = put_head(bytes, LEGBARO_CARD_BYTES);
+    at = put_bytes(at, c->id, sizeof c->id);
+    at = put(at, 2, c->B);
+    at = put(at, 4, c->d);
+    at = put(at, 2, c->r);
+    at = put(at, 4, c->t);
+    at = put(at, 4, c->n);
+    at = put(at, 8, c->ctr);
+    at = put(at, 4, c->next);
+    put(at, 4, c->open);
+}
+
+struct message read_message(const uint8_t *bytes)
+{
+    struct message m;
+    const uint8_t *at = behind_head(bytes);
+    take_bytes(&at, m.id, sizeof m.id);
+    m.i = take(&at, 4);
+    m.B = take(&at, 2);
+    m.d = take(&at, 4);
+    m.r = take(&at, 2);
+    m.n = take(&at, 4);
+    take_bytes(&at, m.k, sizeof m.k);
+    take_bytes(&at, m.c, sizeof m.c);
+    return m;
+}
+
+void write_message(uint8_t *bytes, const struct message *m)
+{
+    uint8_t *at = put_head(bytes, LEGBARO_MESSAGE_BYTES);
+    at = put_bytes(at, m->id, sizeof m->id);
+    at = put(at, 4, m->i);
+    at = put(at, 2, m->B);
+    at = put(at, 4, m->d);
+    at = put(at, 2, m->r);
+    at = put(at, 4, m->n);
+    at = put_bytes(at, m->k, sizeof m->k);
+    put_bytes(at, m->c, sizeof m->c);
+}
+
+int within(uint64_t least, uint64_t x, uint64_t most)
+{
+    return least <= x && x <= most;
+}
+
+int shape_fits(uint64_t B, uint64_t d, uint64_t r)
+{
+    return within(1, B, LEGBARO_MOST_BLOCK_BYTES) && within(1, d, LEGBARO_MOST_ROWS) && within(1, r, LEGBARO_MOST_POSITIONS) &&
+           r <= d;
+}
+
+static int card_fits(const struct card *c)
+{
+    return shape_fits(c->B, c->d, c->r) && within(1, c->t, LEGBARO_MOST_TOKENS) && within(1, c->n, LEGBARO_MOST_BLOCKS) &&
+           c->ctr <= LEGBARO_MOST_COUNTER && within(1, c->next, c->t + 1) && (c->open == 0 || c->open == c->next - 1);
+}
+
+int message_fits(const struct message *m)
+{
+    return shape_fits(m->B, m->d, m->r) && within(1, m->i, LEGBARO_MOST_TOKENS) && within(1, m->n, LEGBARO_MOST_BLOCKS);
+}
+
+uint64_t card_fault(const uint8_t *card)
+{
+    struct card c = second_read_card(card);
+    if (!head_fits(card, LEGBARO_CARD_BYTES))
+        return LEGBARO_WRONG_HEADER;
+    return card_fits(&c) ? LEGBARO_OK : LEGBARO_OUT_OF_LIMITS;
+}
