@@ -228,6 +228,11 @@ uint64_t legbaro_judge(const uint8_t *master, size_t master_length,
  *   table      at least i * LEGBARO_RECORD_BYTES, where i is the message's token; the host lends it whole
  *   reply      LEGBARO_REPLY_BYTES, written
  *
+ * ORDER. Only blocks of the rows drawn are read: position by position, and in a row from the newest column back to the oldest. That is the
+ * order in which each block is first touched. A host that maps its blocks from a file may rely on it, and have newer columns on quicker disks:
+ * from the first touch of a block on, at most fifteen further blocks are touched before it has been read to its end, and then it is not read
+ * again.
+ *
  * Codes: 1 (message, reply), 2, 3, 1 (blocks, table).
  */
 uint64_t legbaro_prove(const uint8_t *message, size_t message_length,

@@ -60,6 +60,7 @@ int main(int count, char **words)
     test_lists(options.lists);
     if (!options.exact) {
         test_limits();
+        test_order();
         test_stack();
     }
     test_codes();

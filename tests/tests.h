@@ -26,6 +26,9 @@ void test_lists(unsigned lists);
 /* The most of every number. */
 void test_limits(void);
 
+/* The order in which set-up and proof come to their blocks. */
+void test_order(void);
+
 /* That each call needs no more stack than the header says. */
 void test_stack(void);
 
