@@ -21,6 +21,11 @@ struct bytes room(size_t length)
     return b;
 }
 
+int is_there(const char *name)
+{
+    return access(name, F_OK) == 0;
+}
+
 size_t size_of(const char *name)
 {
     struct stat about;
@@ -107,9 +112,9 @@ void make_folders(const char *name)
 
 void remove_folders(const char *name)
 {
-    static const char *const names[] = {"owner/master",       "owner/card", "owner",             "host/blocks",
-                                        "host/blocks-before", "host/table", "host/table-before", "host/message",
-                                        "host/reply",         "host"};
+    static const char *const names[] = {"owner/master", "owner/card",         "owner/table", "owner",
+                                        "host/blocks",  "host/blocks-before", "host/table",  "host/table-before",
+                                        "host/message", "host/reply",         "host"};
     for (size_t i = 0; i < sizeof names / sizeof *names; i++)
         remove(names[i]);
     if (chdir("..") != 0 || rmdir(name) != 0)

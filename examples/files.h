@@ -19,6 +19,9 @@ void stop(const char *what, const char *name);
 /* Room for so many bytes. */
 struct bytes room(size_t length);
 
+/* Whether there is a file of that name. */
+int is_there(const char *name);
+
 /* All bytes of a file, and their number; makes a file of these bytes; puts bytes behind a file's last. */
 struct bytes read_file(const char *name);
 size_t size_of(const char *name);

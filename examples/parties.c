@@ -71,14 +71,28 @@ uint64_t owner_sets_up(const struct plan *plan)
 
 /* ---- The owner: changes ---- */
 
-/* What the owner needs for a change: its master and card, and the table, fetched from the host. */
+void owner_fetches(uint64_t token)
+{
+    size_t offset = (token - 1) * LEGBARO_RECORD_BYTES;
+    struct bytes records = room(size_of("host/table") - offset);
+    read_part("host/table", offset, records);
+    if (token == 1)
+        write_file("owner/table", LENT(records));
+    else
+        write_part("owner/table", offset, records);
+    free(records.at);
+}
+
+/* What the owner needs for a change: its master, its card and its copy of the table. */
 struct hand {
     struct bytes master, card, table;
 };
 
 static struct hand owner_takes(void)
 {
-    struct hand hand = {read_file("owner/master"), read_file("owner/card"), read_file("host/table")};
+    if (!is_there("owner/table"))
+        owner_fetches(1);
+    struct hand hand = {read_file("owner/master"), read_file("owner/card"), read_file("owner/table")};
     return hand;
 }
 
@@ -88,6 +102,7 @@ static void owner_puts_back(struct hand *hand, uint64_t result)
     if (result == LEGBARO_OK) {
         write_file("owner/card", LENT(hand->card));
         write_file("host/table", LENT(hand->table));
+        wipe("owner/table");
     }
     free(hand->master.at);
     free(hand->card.at);

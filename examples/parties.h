@@ -20,6 +20,10 @@ void owner_begins(struct bytes blocks);
 /* Makes card and table from these blocks, and sends table and blocks to the host. */
 uint64_t owner_sets_up(const struct plan *plan);
 
+/* Fetches the table's records from a token's on into the owner's copy of the table; the whole table with 1. A change fetches it all where
+ * the owner has no copy. The copy goes back to the host where the change was accepted, and stays for another try where it was not. */
+void owner_fetches(uint64_t token);
+
 /* Appends a block; loads one or more blocks, end to end. They go to the host where the call was accepted. */
 uint64_t owner_appends(struct bytes block);
 uint64_t owner_loads(struct bytes blocks);

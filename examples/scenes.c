@@ -1,9 +1,7 @@
 /* See scenes.h. */
-#define _XOPEN_SOURCE 700
 #include "scenes.h"
 
 #include <stdio.h>
-#include <unistd.h>
 
 static int others;
 
@@ -54,7 +52,7 @@ void tell_files(const char *party)
     printf("  the %s holds:", party);
     for (size_t i = 0; i < sizeof names / sizeof *names; i++) {
         snprintf(name, sizeof name, "%s/%s", party, names[i]);
-        if (access(name, F_OK) == 0)
+        if (is_there(name))
             printf(" %s (%lu bytes)", names[i], (unsigned long)size_of(name));
     }
     putchar('\n');

@@ -83,6 +83,40 @@ static void audit_sound_host(void)
     puts("  The host holds every block, the newest too: the signs may be calibrated.");
 }
 
+/* The owner's copy of the table ends within a record; the rest is zero bytes. */
+static void line_drops_in(uint64_t token)
+{
+    size_t whole = size_of("owner/table");
+    resize_file("owner/table", token * LEGBARO_RECORD_BYTES - LEGBARO_RECORD_BYTES / 2);
+    resize_file("owner/table", whole);
+}
+
+/* What the number with code 7 is for. */
+static void fetch_from(uint64_t token)
+{
+    printf("  Record %lu is named, the lowest unused one that does not open. The owner fetches the records from %lu on again: %lu bytes.\n",
+           (unsigned long)token, (unsigned long)token, (unsigned long)((TOKENS + 1 - token) * LEGBARO_RECORD_BYTES));
+    owner_fetches(token);
+}
+
+static void bad_record(void)
+{
+    enum { STUCK = 200, DROPPED_IN = 3 };
+    struct bytes corrected = samples(BAYS, STUCK, 1);
+    puts("\nA RECORD DAMAGED ON THE WAY");
+    printf("  Block %d is to be corrected too. The owner fetches the table, but the line drops in record %d: the rest is zero bytes.\n",
+           STUCK, DROPPED_IN);
+    owner_fetches(1);
+    line_drops_in(DROPPED_IN);
+    uint64_t result = owner_updates(STUCK, corrected);
+    tell("update:", result, LEGBARO_BAD_RECORD);
+    if (LEGBARO_CODE(result) == LEGBARO_BAD_RECORD)
+        fetch_from(LEGBARO_TOKEN(result));
+    tell("update:", owner_updates(STUCK, corrected), LEGBARO_OK);
+    free(corrected.at);
+    tell_card();
+}
+
 static void audit_lost_block(void)
 {
     size_t whole = size_of("host/blocks");
@@ -113,6 +147,7 @@ static void first_centre(void)
     set_up();
     changes();
     audit_sound_host();
+    bad_record();
     audit_lost_block();
     audit_stale_table();
     remove_folders("first");

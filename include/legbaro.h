@@ -70,7 +70,7 @@ extern "C" {
 #define LEGBARO_NO_SUCH_BLOCK 4       /* the block number is 0 or above n */
 #define LEGBARO_FILE_FULL 5           /* append or load that would make n more than LEGBARO_MOST_BLOCKS */
 #define LEGBARO_NO_TOKEN_LEFT 6       /* draw after the last token */
-#define LEGBARO_BAD_RECORD 7          /* an unused record does not open; its token number comes with the code */
+#define LEGBARO_BAD_RECORD 7          /* an unused record does not open; the lowest such token comes with the code */
 #define LEGBARO_TOKEN_OPEN 8          /* change or draw while a drawn token is not judged */
 #define LEGBARO_NONE_OPEN 9           /* judge while no token is drawn */
 #define LEGBARO_COUNTER_AT_MOST 10    /* change with the counter at LEGBARO_MOST_COUNTER */
@@ -130,7 +130,8 @@ uint64_t legbaro_set_up(const uint8_t *master, size_t master_length,
  *   new_block  B bytes
  *
  * Codes: 1 (master, card), 2, 3, 1 (table, old_block, new_block), 8, 4, 10, 7. With 7 comes the lowest unused token whose record does not
- * open; records from that number on may be fetched again from the host.
+ * open: every unused record below it opens. Where the records from that number on are fetched again from the host, and open, the same
+ * call is accepted.
  */
 uint64_t legbaro_update(const uint8_t *master, size_t master_length,
                         uint8_t *card, size_t card_length,

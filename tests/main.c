@@ -54,6 +54,7 @@ int main(int count, char **words)
     test_permutation();
     test_refusals();
     test_faults();
+    test_bad_records();
     test_bits();
     test_loads();
     test_plans();

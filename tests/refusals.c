@@ -1,11 +1,10 @@
-/* "Turned away" of papers 01 and 02: the small input of each refusal, what is taken at the edge, and the token that code 7 names. */
+/* "Turned away" of papers 01 and 02: the small input of each refusal, and what is taken at the edge. */
 #include "tests.h"
 
-#include "chance.h"
 #include "files.h"
 #include "groups.h"
 
-enum { B = 28, D = 5, R = 3, T = 3, RECORDS_TRIED = 6 };
+enum { B = 28, D = 5, R = 3, T = 3 };
 
 /* Expects a call of a kind on the file, with nothing wrong in its arguments, to be turned away with a code. */
 static void refused(const struct file *file, enum kind kind, uint64_t code, const char *what)
@@ -132,37 +131,7 @@ static void small_inputs(void)
     group_end();
 }
 
-/* With `next` to draw and the records of a set damaged (a bit for each), a change names the lowest unused one among them. */
-static void damaged_set(const struct file *file, enum kind kind, unsigned set)
-{
-    uint64_t lowest = file->book.numbers.next;
-    struct call call = file_call(file, kind);
-    for (unsigned i = 1; i <= RECORDS_TRIED; i++)
-        if (set & 1u << i)
-            buffer_flip(&call.lent[TABLE], 8 * LEGBARO_RECORD_BYTES * (i - 1) + chance_below(8 * LEGBARO_RECORD_BYTES));
-    while (lowest <= RECORDS_TRIED && !(set & 1u << lowest))
-        lowest++;
-    call_finish(&call, lowest > RECORDS_TRIED ? LEGBARO_OK : LEGBARO_BAD_RECORD + 256 * lowest, "the lowest unused bad record");
-}
-
-static void bad_records(void)
-{
-    group_begin("code 7 names the lowest unused record that does not open");
-    struct file file = file_set_up(B, D, R, RECORDS_TRIED, D);
-    for (unsigned next = 1; next <= RECORDS_TRIED + 1; next++) {
-        for (unsigned set = 0; set < 2u << RECORDS_TRIED; set += 2)
-            damaged_set(&file, (enum kind)(UPDATE + chance_below(LOAD + 1 - UPDATE)), set);
-        if (next <= RECORDS_TRIED) {
-            file_do(&file, DRAW);
-            file_do(&file, JUDGE);
-        }
-    }
-    file_end(&file);
-    group_end();
-}
-
 void test_refusals(void)
 {
     small_inputs();
-    bad_records();
 }

@@ -5,11 +5,14 @@
 /* The second implementation's permutation on small d: one to one, undone backward, with paper 01's half widths. */
 void test_permutation(void);
 
-/* The small input of each refusal of papers 01 and 02, what is taken at the edge, and the token that code 7 names. */
+/* The small input of each refusal of papers 01 and 02, and what is taken at the edge. */
 void test_refusals(void);
 
 /* Every fault alone, and every two faults in one call, in the papers' order. */
 void test_faults(void);
+
+/* Damaged records: the token that code 7 names, and records fetched again from there on. */
+void test_bad_records(void);
 
 /* Every single-bit change of what the calls read. */
 void test_bits(void);

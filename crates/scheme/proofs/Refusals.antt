@@ -1,5 +1,6 @@
 -- Each refusal's small input, and pairs of faults in the order of "Turned away", computed over the stand-ins. Assumes nothing.
 --   small-inputs, loads, positions   the column "Small input", the limits that moved, and calls that are accepted
+--   lowest                           the token that code 7 names
 --   in-order, loads-in-order         pairs of faults
 use Prim.Native.Nat.{_+_, _*_}
 use mathlib.Core.Path.{_≡_, refl}
@@ -37,6 +38,18 @@ unfolding be le ofBe ofLe same xors first xorBelow recordsFrom cardBytes readCar
     nonceBytes recordAt columnsOf blockIn blockAt indexOf keyW keyZ keyK drawKey hashKey blockHash columnHash drawnRow rowDigest digest token sealedRecord
     bodyIn tokenIn firstBad unusedBad setUpCode changeCode drawCode judgeFault judgeCode
 small-inputs = (refl, refl, refl, refl, refl, refl, refl, refl, refl, refl, refl, refl, refl, refl, refl, refl)
+
+-- #103: "the lowest unused token whose record does not open", of two records that do not open, with none, one and both spent
+pub lowest : (updateCode standIn key (cardOf 1 2 0 1 0) (bothFlipped 0) 1 (5 ∷ []) (9 ∷ []) ≡ 7 + 256 * 1)
+    × (updateCode standIn key (cardOf 1 2 0 2 0) (bothFlipped 0) 1 (5 ∷ []) (9 ∷ []) ≡ 7 + 256 * 2)
+    × (deleteCode standIn key (cardOf 1 2 0 2 0) (bothFlipped 0) 1 (5 ∷ []) ≡ 7 + 256 * 2)
+    × (appendCode standIn key (cardOf 1 2 0 2 0) (bothFlipped 0) (9 ∷ []) ≡ 7 + 256 * 2)
+    × (loadCode standIn key (cardOf 1 2 0 2 0) (bothFlipped 0) (8 ∷ 9 ∷ []) ≡ 7 + 256 * 2)
+    × (loadCode standIn key (cardOf 1 2 0 3 0) (bothFlipped 0) (8 ∷ 9 ∷ []) ≡ 0)
+unfolding be le ofBe ofLe same xors first xorBelow recordsFrom cardBytes readCard shapeFits tokenFits blocksFit cardFits headFits clearBytes
+    nonceBytes recordAt columnsOf blockIn blockAt indexOf keyW keyZ keyK drawKey hashKey blockHash columnHash drawnRow rowDigest digest token sealedRecord
+    bodyIn tokenIn firstBad unusedBad changeCode
+lowest = (refl, refl, refl, refl, refl, refl)
 
 -- "Order: 1 for buffers of fixed size, 2, 3, 1 for sizes that follow from fields, then 8 or 9, 6, 4, 5, 10, 7"
 pub in-order : (updateCode standIn [] (second (cardOf 1 2 0 1 0)) (tableOf 0) 1 (5 ∷ []) (9 ∷ []) ≡ 1)
