@@ -109,24 +109,27 @@ static void owner_puts_back(struct hand *hand, uint64_t result)
     free(hand->table.at);
 }
 
-uint64_t owner_appends(struct bytes block)
-{
-    struct hand hand = owner_takes();
-    uint64_t result = legbaro_append(LENT(hand.master), LENT(hand.card), LENT(hand.table), LENT(block));
-    if (result == LEGBARO_OK)
-        add_to_file("host/blocks", LENT(block));
-    owner_puts_back(&hand, result);
-    return result;
-}
+/* Append or load: the same arguments, and the blocks come behind the last one either way. */
+typedef uint64_t adding(const uint8_t *, size_t, uint8_t *, size_t, uint8_t *, size_t, const uint8_t *, size_t);
 
-uint64_t owner_loads(struct bytes blocks)
+static uint64_t owner_adds(adding *call, struct bytes blocks)
 {
     struct hand hand = owner_takes();
-    uint64_t result = legbaro_load(LENT(hand.master), LENT(hand.card), LENT(hand.table), LENT(blocks));
+    uint64_t result = call(LENT(hand.master), LENT(hand.card), LENT(hand.table), LENT(blocks));
     if (result == LEGBARO_OK)
         add_to_file("host/blocks", LENT(blocks));
     owner_puts_back(&hand, result);
     return result;
+}
+
+uint64_t owner_appends(struct bytes block)
+{
+    return owner_adds(legbaro_append, block);
+}
+
+uint64_t owner_loads(struct bytes blocks)
+{
+    return owner_adds(legbaro_load, blocks);
 }
 
 uint64_t owner_updates(uint64_t number, struct bytes block)
