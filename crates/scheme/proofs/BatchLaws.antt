@@ -29,13 +29,13 @@ SizedItems B [] = Unit {0}
 SizedItems B (x ∷ xs) = (length (itemBlock B x) ≡ B) × SizedItems B xs
 
 module _ (B : ℕ) where
+  either : (k : Bool) (xs ys : List ℕ) → length xs ≡ B → length ys ≡ B → length (cond k xs ys) ≡ B
+  either true xs ys h g = h
+  either false xs ys h g = g
+
   block-sized : (x : Item) → length (x .new) ≡ B → length (itemBlock B x) ≡ B
   unfolding itemBlock
-  block-sized x h = go (eqb (x .kind) 1)
-    where
-      go : (k : Bool) → length (cond k (x .new) (replicate B 0)) ≡ B
-      go true = h
-      go false = length-replicate B 0
+  block-sized x h = either (eqb (x .kind) 1) (x .new) _ h (length-replicate B _)
 
   new-sized : (xs : List ℕ) → itemSize B ≤ length xs → length ((readItem B xs) .new) ≡ B
   unfolding itemSize readItem

@@ -176,9 +176,9 @@ module _ (P : Primitives) where
       → (1 ≤ blocksAfter c edit) × (blocksAfter c edit ≤ 16777216)
   blocks-fit master c table (update m old new) u = let l = card-limits c (u .fits) in (l .n1, l .nmost)
   blocks-fit master c table (delete m old) u = let l = card-limits c (u .fits) in (l .n1, l .nmost)
-  blocks-fit master c table (append new) u = (omega arith, omega (arith, ltb-true (c .n) 16777216 (u .placed .0)))
+  blocks-fit master c table (append new) u = (omega arith, omega (arith, ltb-true (c .n) 16777216 (u .placed 5)))
   blocks-fit master c table (load blocks) u =
-      (omega (arith, card-limits c (u .fits) .n1), leb-true (c .n + length blocks / c .B) 16777216 (u .placed .1 .0))
+      (omega (arith, card-limits c (u .fits) .n1), leb-true (c .n + length blocks / c .B) 16777216 (u .placed 5))
   blocks-fit master c table (batch items) u = let l = card-limits c (u .fits) in (l .n1, l .nmost)
 
   -- an accepted change

@@ -250,7 +250,7 @@ module _ (P : Primitives) (master card table blocks : List ℕ) where
 
       go : (k : ℕ) → length news ≡ k → 1 ≤ k
       go zero e =
-          let q = both (ltb 0 (length blocks)) (eqb (length blocks % B) 0) (change-has P master card table (load blocks) ok .placed .0) in
+          let q = both (ltb 0 (length blocks)) (eqb (length blocks % B) 0) (change-has P master card table (load blocks) ok .placed 12) in
           let none : length blocks / B * B ≡ 0 = ap (λ (k : ℕ). k * B) (sym many ∙ e) ∙ zero-mul B in
           omega (arith, ltb-true 0 (length blocks) (q .0), eqb-true (length blocks % B) 0 (q .1), div-add-mod' (length blocks) B)
       go (suc k) e = omega arith
@@ -316,6 +316,6 @@ batch-singly P master card table items ok a =
     let c = readCard card in
     let xs = itemsOf c items in
     let n = corrected-many xs in
-    let fit = batch-has c items (change-has P master card table (batch items) ok .placed .0) in
+    let fit = batch-has c items (change-has P master card table (batch items) ok .placed 14) in
     rw (← n)
     (alike P master card table (batch items) (corrections xs) (omega (arith, fit .some)) ok a (corrected-work c xs) (corrected-count c xs))
