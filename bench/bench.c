@@ -1,14 +1,16 @@
 /*
- * Times set-up, proof, update and load by each code of the archive and by the second implementation over libcrypto, and a load beside the
- * set-up or the appends in whose place it stands; prints tables that can be pasted into docs/PERFORMANCE.md. What each code writes is compared
- * with the second implementation first. A code that the processor can't run is left out.
+ * Times set-up, proof, update, load and batch by each code of the archive and by the second implementation over libcrypto, and a load or a
+ * batch beside the calls in whose place it stands; prints tables that can be pasted into docs/PERFORMANCE.md. What each code writes is
+ * compared with the second implementation first. A code that the processor can't run is left out.
  *
  * libcrypto uses the processor's SHA instructions where it has them; a helper shows what it does without them. In each row all alternate, and
  * the best of each counts.
  *
+ *   --beside     the tables of calls beside those in whose place they stand, alone
  *   --headline   one great set-up in place of the tables, whole: as the archive chooses, by the plain code, and by the second implementation
  */
 #define _XOPEN_SOURCE 700
+#include "batches.h"
 #include "chance.h"
 #include "codes.h"
 #include "files.h"
@@ -26,14 +28,14 @@ enum { SEED = 20261115 };
 
 /* ---- What is timed ---- */
 
-/* t tokens for a set-up or a change; n blocks for a proof, and n new blocks for a load. */
+/* t tokens for a set-up or a change; n blocks for a proof, n new blocks for a load, and n items for a batch. */
 struct measure {
     const char *title; /* begins a table */
     enum kind kind;
     uint64_t B, d, r, t, n;
 };
 
-enum { T_SET_UP = 4, T_UPDATE = 64, T_LOAD = 4 };
+enum { T_SET_UP = 4, T_UPDATE = 64, T_LOAD = 4, T_BATCH = 8 };
 
 /* Set-up and proof at one size. */
 #define BOTH(title, B, d, r) {title, SET_UP, B, d, r, T_SET_UP, d}, {NULL, PROVE, B, d, r, 1, d}
@@ -57,6 +59,11 @@ static const struct measure measures[] = {
     {NULL, LOAD, 64, 4096, 64, T_LOAD, 256},
     {NULL, LOAD, 1024, 5000, 460, T_LOAD, 459},
     {NULL, LOAD, 1024, 5000, 460, T_LOAD, 460},
+    {"Batch of n items", BATCH, 64, 4096, 64, T_BATCH, 1},
+    {NULL, BATCH, 64, 4096, 64, T_BATCH, 12},
+    {NULL, BATCH, 64, 4096, 64, T_BATCH, 64},
+    {NULL, BATCH, 1024, 5000, 460, T_BATCH, 12},
+    {NULL, BATCH, 1024, 5000, 460, T_BATCH, 64},
     {"Growth with t, the tokens", SET_UP, 64, 4096, 64, 4, 4096},
     {NULL, SET_UP, 64, 4096, 64, 64, 4096},
     {NULL, UPDATE, 64, 4096, 64, 16, 4096},
@@ -92,17 +99,19 @@ static struct call proof_call(const struct measure *m)
     return proof;
 }
 
-/* An update, or a load of n blocks. */
+/* An update, a load of n blocks, or a batch of n items. */
 static struct call change_call(const struct measure *m)
 {
     struct file file = file_set_up(m->B, m->d, m->r, m->t, m->d);
-    struct call change = m->kind == LOAD ? file_load_call(&file, m->n) : file_call(&file, UPDATE);
+    struct call change = m->kind == LOAD    ? file_load_call(&file, m->n)
+                         : m->kind == BATCH ? file_batch_call(&file, m->n)
+                                            : file_call(&file, UPDATE);
     file_end(&file);
     return change;
 }
 
-/* The call that is timed. It is accepted again and again on its own buffers, by any way: an update takes the bytes handed over, and a load
- * adds its blocks once more. */
+/* The call that is timed. It is accepted again and again on its own buffers, by any way: an update or a batch takes the bytes handed over,
+ * and a load adds its blocks once more. */
 static struct call measured_call(const struct measure *m)
 {
     if (m->kind == SET_UP)
@@ -198,18 +207,26 @@ static void print_row(const struct measure *m, struct times t)
     fflush(stdout);
 }
 
-static void print_tables(const char *program)
+static void print_measures(const char *program)
 {
     helper_start(program);
+    for (int row = 0; row < MEASURES; row++)
+        print_row(&measures[row], measure(row));
+    helper_end();
+}
+
+/* All tables, or only those of calls beside others. */
+static void print_tables(const char *program, int only_beside)
+{
     group_begin("the library and the second implementation write the same");
     print_processor();
     puts(OpenSSL_version(OPENSSL_VERSION));
-    for (int row = 0; row < MEASURES; row++)
-        print_row(&measures[row], measure(row));
+    if (!only_beside)
+        print_measures(program);
     print_loads();
+    print_batches();
     putchar('\n');
     group_end();
-    helper_end();
 }
 
 /* Times the great set-up by one way, and expects card and table of the way before. */
@@ -249,7 +266,7 @@ int main(int count, char **words)
     else if (!strcmp(word, "--headline"))
         print_headline();
     else
-        print_tables(words[0]);
+        print_tables(words[0], !strcmp(word, "--beside"));
     second_end();
     return helper || groups_passed() ? 0 : 1;
 }

@@ -2,6 +2,7 @@
 #include "parties.h"
 
 #include <stdlib.h>
+#include <string.h>
 
 /* An example key, for this program only. A real one is random, secret, and set up once for each file id. */
 static const char example_master[] = "Example key: for this demo only!";
@@ -157,6 +158,42 @@ uint64_t owner_deletes(uint64_t number)
     owner_puts_back(&hand, result);
     free(old.at);
     free(zeros.at);
+    return result;
+}
+
+/* Writes one item of a batch; the old block comes from the host. */
+static void write_item(uint8_t *item, const struct correction *correction, size_t block_bytes)
+{
+    struct bytes old = {item + LEGBARO_ITEM_OLD, block_bytes};
+    item[LEGBARO_ITEM_KIND] = correction->block.at ? LEGBARO_ITEM_UPDATE : LEGBARO_ITEM_DELETE;
+    for (int i = 0; i < 4; i++)
+        item[LEGBARO_ITEM_BLOCK + i] = (uint8_t)(correction->number >> (24 - 8 * i));
+    host_sends(correction->number, old);
+    if (correction->block.at)
+        memcpy(item + LEGBARO_ITEM_NEW(block_bytes), correction->block.at, block_bytes);
+}
+
+/* Puts zero bytes in the place of the blocks that are deleted, and the new blocks in the place of the others. */
+static void host_corrects(const struct correction *corrections, size_t count, size_t block_bytes)
+{
+    struct bytes zeros = room(block_bytes);
+    for (size_t i = 0; i < count; i++)
+        host_replaces(corrections[i].number, corrections[i].block.at ? corrections[i].block : zeros);
+    free(zeros.at);
+}
+
+uint64_t owner_corrects(const struct correction *corrections, size_t count)
+{
+    struct hand hand = owner_takes();
+    size_t block_bytes = in_card(LEGBARO_CARD_BLOCK_BYTES, 2), item_bytes = LEGBARO_ITEM_BYTES(block_bytes);
+    struct bytes items = room(count * item_bytes);
+    for (size_t i = 0; i < count; i++)
+        write_item(items.at + i * item_bytes, &corrections[i], block_bytes);
+    uint64_t result = legbaro_batch(LENT(hand.master), LENT(hand.card), LENT(hand.table), LENT(items));
+    if (result == LEGBARO_OK)
+        host_corrects(corrections, count, block_bytes);
+    owner_puts_back(&hand, result);
+    free(items.at);
     return result;
 }
 

@@ -32,6 +32,15 @@ uint64_t owner_loads(struct bytes blocks);
 uint64_t owner_updates(uint64_t number, struct bytes block);
 uint64_t owner_deletes(uint64_t number);
 
+/* A block and what takes its place; zero bytes do where no block is named. */
+struct correction {
+    uint64_t number;
+    struct bytes block;
+};
+
+/* Corrects blocks together, in one batch: fetches them, and puts the others in their places; the host does the same. */
+uint64_t owner_corrects(const struct correction *corrections, size_t count);
+
 /* Draws a message and sends it to the host; judges the reply that the host sent. */
 uint64_t owner_draws(void);
 uint64_t owner_judges(void);

@@ -32,6 +32,7 @@ void tell(const char *step, uint64_t result, uint64_t expected)
         [LEGBARO_REJECTED] = "REJECTED",
         [LEGBARO_NOT_WHOLE_BLOCKS] = "turned away: these are not whole blocks",
         [LEGBARO_TOO_MANY_POSITIONS] = "turned away: more than 512 positions",
+        [LEGBARO_BAD_BATCH] = "turned away: these items are no batch",
     };
     printf("  %-56s %s\n", step, results[LEGBARO_CODE(result)]);
     if (LEGBARO_CODE(result) != expected) {

@@ -6,6 +6,9 @@
 
 enum { TICKS_A_DAY = 24, A_WEEK = 7 * TICKS_A_DAY };
 
+/* The first car park's corrections in one batch: morning.c. */
+void morning(void);
+
 /* A second car park, with a month in one load: month.c. */
 void new_centre(void);
 

@@ -1,6 +1,6 @@
 /*
- * One file's week: a car park's occupancy samples go to a storage host, one block a tick, and the host is audited. Then a new centre,
- * which sends a month together.
+ * One file's week: a car park's occupancy samples go to a storage host, one block a tick, a morning's corrections go there together, and
+ * the host is audited. Then a new centre, which sends a month together.
  *
  * Owner and host are two folders of real files in a temporary folder: parties.h. The program ends with status 0 where every step came out
  * as a planner expects it.
@@ -13,7 +13,7 @@
 #include <unistd.h>
 
 /* Every audit draws all rows here, so it looks at every block. In a large file a few hundred of the rows are enough. */
-enum { BAYS = 96, ROWS = A_WEEK, POSITIONS = ROWS, TOKENS = 4 };
+enum { BAYS = 96, ROWS = A_WEEK, POSITIONS = ROWS, TOKENS = 5 };
 
 /* ---- The week ---- */
 
@@ -148,6 +148,7 @@ static void first_centre(void)
     changes();
     audit_sound_host();
     bad_record();
+    morning();
     audit_lost_block();
     audit_stale_table();
     remove_folders("first");

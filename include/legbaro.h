@@ -4,7 +4,8 @@
  * The owner keeps a 32-byte master key and a 43-byte card. The host keeps the file's blocks and a table of sealed tokens.
  *
  *   set up    the owner cuts the file into n blocks and gets a card and a table; blocks and table go to the host
- *   change    the owner fetches the table (and the block that changes), updates, deletes, appends or loads, and sends the table back
+ *   change    the owner fetches the table (and the blocks that change), updates, deletes, appends, loads or does several updates and
+ *             deletions in one batch, and sends the table back
  *   audit     the owner draws a message and sends it; the host proves, with a reply; the owner judges the reply
  *
  * A block has B bytes. Blocks are numbered from 1 and lie in d rows: block m in row ((m-1) mod d) + 1, column (m-1) div d.
@@ -29,8 +30,8 @@
  *   - a master and a file id are set up once only. A second set-up would seal other tokens under the same nonces, and who sees both
  *     tables can read tokens. The master is 32 random bytes, and the host never sees it.
  *   - a card that a call has written takes the place of the one before. An older copy must not be used again, for the same reason.
- *   - the old block handed to an update or a deletion is the one the file holds. Other bytes are taken as they are, and then the
- *     tokens that cover the block no longer fit the file.
+ *   - the old block handed to an update or a deletion, alone or in a batch, is the one the file holds. Other bytes are taken as they are,
+ *     and then the tokens that cover the block no longer fit the file.
  *
  * The library keeps nothing between calls, allocates nothing, and needs less than 64 KB of stack. Calls on separate buffers may run at
  * the same time. It runs on every x86-64 processor, and uses AVX2 or AVX-512 where a program is loaded on a processor that has them; what
@@ -60,6 +61,7 @@ extern "C" {
 #define LEGBARO_MOST_POSITIONS 512    /* r, which is no more than d either */
 #define LEGBARO_MOST_TOKENS 65536     /* t */
 #define LEGBARO_MOST_BLOCKS 16777216  /* n, which is less than d, d or more */
+#define LEGBARO_MOST_ITEMS 64         /* the changes in a batch */
 #define LEGBARO_MOST_COUNTER 4294967295u
 
 /* Codes. */
@@ -67,7 +69,7 @@ extern "C" {
 #define LEGBARO_WRONG_LENGTH 1        /* a buffer has another length than the call asks */
 #define LEGBARO_WRONG_HEADER 2        /* the length field or the version of the card or the message is wrong */
 #define LEGBARO_OUT_OF_LIMITS 3       /* a field of the card or the message, or a number lent, is outside its limits */
-#define LEGBARO_NO_SUCH_BLOCK 4       /* the block number is 0 or above n */
+#define LEGBARO_NO_SUCH_BLOCK 4       /* the block number, or one in a batch, is 0 or above n */
 #define LEGBARO_FILE_FULL 5           /* append or load that would make n more than LEGBARO_MOST_BLOCKS */
 #define LEGBARO_NO_TOKEN_LEFT 6       /* draw after the last token */
 #define LEGBARO_BAD_RECORD 7          /* an unused record does not open; the lowest such token comes with the code */
@@ -77,6 +79,7 @@ extern "C" {
 #define LEGBARO_REJECTED 11           /* judge: the reply does not prove possession */
 #define LEGBARO_NOT_WHOLE_BLOCKS 12   /* load of no bytes, or of a length that B does not divide */
 #define LEGBARO_TOO_MANY_POSITIONS 13 /* the positions asked for are more than LEGBARO_MOST_POSITIONS */
+#define LEGBARO_BAD_BATCH 14          /* a batch of no item, too many or no whole ones, of another kind, or with numbers that do not rise */
 
 /* The two parts of a result: the code, and the number, which is a token with LEGBARO_BAD_RECORD. */
 #define LEGBARO_CODE(result) ((result) % 256)
@@ -96,6 +99,17 @@ extern "C" {
 #define LEGBARO_CARD_COUNTER 27     /* 8 bytes: ctr, the number of changes */
 #define LEGBARO_CARD_NEXT 35        /* 4 bytes: the token to draw next, t + 1 after the last */
 #define LEGBARO_CARD_OPEN 39        /* 4 bytes: the token drawn and not judged, 0 for none */
+
+/* An item of a batch, on blocks of B bytes: what it has at which offset, and how many bytes it is. */
+#define LEGBARO_ITEM_KIND 0                 /* 1 byte: LEGBARO_ITEM_UPDATE or LEGBARO_ITEM_DELETE */
+#define LEGBARO_ITEM_BLOCK 1                /* 4 bytes, big-endian: the block number */
+#define LEGBARO_ITEM_OLD 5                  /* B bytes: the block as it is; zero bytes for a deleted one */
+#define LEGBARO_ITEM_NEW(B) (5 + (B))       /* B bytes: what the block becomes; in a deletion they are there and not read */
+#define LEGBARO_ITEM_BYTES(B) (5 + 2 * (B)) /* the next item begins here */
+
+/* The kinds of an item. */
+#define LEGBARO_ITEM_UPDATE 1
+#define LEGBARO_ITEM_DELETE 2
 
 /*
  * Set-up, the owner's: makes the card and the table of a new file.
@@ -193,6 +207,29 @@ uint64_t legbaro_load(const uint8_t *master, size_t master_length,
                       uint8_t *card, size_t card_length,
                       uint8_t *table, size_t table_length,
                       const uint8_t *blocks, size_t blocks_length);
+
+/*
+ * Batch, the owner's: 1 to LEGBARO_MOST_ITEMS updates and deletions together, under one step of the counter.
+ *
+ *   master     LEGBARO_MASTER_BYTES
+ *   card       LEGBARO_CARD_BYTES, written as in an update: the counter rises by 1, however many items there are
+ *   table      t * LEGBARO_RECORD_BYTES, written as in an update
+ *   items      LEGBARO_ITEM_BYTES(B) for each item, end to end, in the order of their block numbers: each number above the one before,
+ *              so that a block is in a batch once
+ *
+ * The tokens in the table are then those that the same updates and deletions would leave if they were made one by one; counter and
+ * sealing alone differ. A batch of one item writes what that update or deletion writes.
+ * An update sends a correction as soon as it is there. A batch is for corrections that come together: the table is fetched and sent back
+ * once and not once for each of them, and every unused record is opened and sealed once. What each item costs is a walk, and two hashes
+ * where the token draws its row. All of a batch is taken or none of it.
+ *
+ * Codes: 1 (master, card), 2, 3, 1 (table), 8, 14, 4, 10, 7 (as in an update). The length of items is told by 14, never by 1. With 14 or 4
+ * nothing tells which item it was.
+ */
+uint64_t legbaro_batch(const uint8_t *master, size_t master_length,
+                       uint8_t *card, size_t card_length,
+                       uint8_t *table, size_t table_length,
+                       const uint8_t *items, size_t items_length);
 
 /*
  * Draw, the owner's: opens the next token and writes the message that challenges the host for it.

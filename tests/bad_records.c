@@ -115,10 +115,10 @@ static void damaged_set(const struct held *held, enum kind kind, const struct se
     call_free(&sound);
 }
 
-/* Update, delete, append or load. */
+/* Update, delete, append, load or batch. */
 static enum kind any_change(void)
 {
-    return (enum kind)(UPDATE + chance_below(LOAD + 1 - UPDATE));
+    return (enum kind)(UPDATE + chance_below(BATCH + 1 - UPDATE));
 }
 
 /* Every set of records of a small file: all of it damaged in each way, and in any way in each change. */
@@ -131,7 +131,7 @@ static void every_set(const struct held *held)
             set.has[i] = bits >> (i - 1) & 1;
         for (int how = 0; how < ANY; how++)
             damaged_set(held, any_change(), &set, (enum damage)how);
-        for (int kind = UPDATE; kind <= LOAD; kind++)
+        for (int kind = UPDATE; kind <= BATCH; kind++)
             damaged_set(held, (enum kind)kind, &set, ANY);
     }
 }

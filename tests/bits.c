@@ -19,7 +19,7 @@ static uint64_t with_bit(const struct file *file, enum kind kind, enum role role
 /* Every bit of a card, in every call that reads one. `judging` has a token drawn, `changing` none. */
 static void card_bits(const struct file *changing, const struct file *judging)
 {
-    static const enum kind kinds[] = {UPDATE, DELETE, APPEND, LOAD, DRAW, JUDGE};
+    static const enum kind kinds[] = {UPDATE, DELETE, APPEND, LOAD, BATCH, DRAW, JUDGE};
     group_begin("every bit of a card, in every call that reads it");
     for (size_t k = 0; k < sizeof kinds / sizeof *kinds; k++)
         for (size_t bit = 0; bit < 8 * LEGBARO_CARD_BYTES; bit++)
@@ -37,6 +37,25 @@ static void record_bits(const struct file *changing)
         expect(number == (i < changing->book.numbers.next ? LEGBARO_OK : LEGBARO_BAD_RECORD + 256 * i), "record %llu, bit %lu",
                (unsigned long long)i, (unsigned long)bit);
     }
+    group_end();
+}
+
+/* Every bit of a batch, on two copies of its call. A kind with any bit flipped is none of the two. */
+static void item_bits(const struct file *changing)
+{
+    static const uint64_t blocks[] = {1, 4, 5};
+    enum { ITEM_BITS = 8 * LEGBARO_ITEM_BYTES(B) };
+    group_begin("every bit of a batch");
+    struct call batch = file_batch_of(changing, blocks, sizeof blocks / sizeof *blocks);
+    for (size_t bit = 0; bit < 8 * batch.lent[ITEMS].length; bit++) {
+        struct call call = call_copy(&batch);
+        buffer_flip(&call.lent[ITEMS], bit);
+        uint64_t number = call_compare(&call);
+        expect(number == LEGBARO_BAD_BATCH || bit % ITEM_BITS >= 8 * LEGBARO_ITEM_BLOCK, "a kind with bit %lu flipped", (unsigned long)bit);
+        expect(number == LEGBARO_OK || bit % ITEM_BITS < 8 * LEGBARO_ITEM_OLD, "any old and new bytes are taken");
+        call_free(&call);
+    }
+    call_free(&batch);
     group_end();
 }
 
@@ -86,6 +105,7 @@ void test_bits(void)
     group_end();
     card_bits(&changing, &judging);
     record_bits(&changing);
+    item_bits(&changing);
     reply_bits(&judging);
     proof_bits(&judging);
     master_bits(&changing, &judging);

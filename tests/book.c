@@ -67,9 +67,10 @@ void book_table(const struct book *book, uint8_t *table)
 static struct edit edit_of(const struct call *call)
 {
     static const enum edit_kind kinds[] = {
-        [UPDATE] = EDIT_UPDATE, [DELETE] = EDIT_DELETE, [APPEND] = EDIT_APPEND, [LOAD] = EDIT_LOAD};
-    const struct buffer *added = &call->lent[call->kind == LOAD ? BLOCKS : NEW], *old = &call->lent[OLD];
-    struct edit edit = {kinds[call->kind], call->m, old->bytes, old->length, added->bytes, added->length};
+        [UPDATE] = EDIT_UPDATE, [DELETE] = EDIT_DELETE, [APPEND] = EDIT_APPEND, [LOAD] = EDIT_LOAD, [BATCH] = EDIT_BATCH};
+    const struct buffer *added = &call->lent[call->kind == LOAD ? BLOCKS : NEW], *old = &call->lent[OLD], *items = &call->lent[ITEMS];
+    struct edit edit = {kinds[call->kind], call->m,       old->bytes,   old->length,
+                        added->bytes,      added->length, items->bytes, items->length};
     return edit;
 }
 
@@ -100,15 +101,40 @@ static void add_blocks(struct book *book, const struct buffer *added)
     book->numbers.n += added->length / book->numbers.B;
 }
 
-/* "Update puts the new block under its number, delete puts B zero bytes there, append puts the new block at the end. Each adds 1 to ctr";
- * "Load appends one or more blocks under one counter step" */
-static void take_change(struct book *book, const struct call *call)
+/* "Update puts the new block under its number, delete puts B zero bytes there" */
+static void put_block(struct book *book, uint64_t m, const uint8_t *block)
+{
+    memcpy(place_of(book, m), block, book->numbers.B);
+}
+
+static void put_zeros(struct book *book, uint64_t m)
+{
+    memset(place_of(book, m), 0, book->numbers.B);
+}
+
+/* A batch, "each a kind byte (1 update, 2 delete)" */
+static void take_items(struct book *book, const struct buffer *items)
 {
     uint64_t B = book->numbers.B;
+    for (size_t e = 0; e < items->length / second_item_bytes(B); e++) {
+        struct item item = second_item(items->bytes, B, e);
+        if (item.kind == 1)
+            put_block(book, item.m, item.new_block);
+        else
+            put_zeros(book, item.m);
+    }
+}
+
+/* "append puts the new block at the end. Each adds 1 to ctr"; "Load appends one or more blocks under one counter step"; a batch "makes one
+ * counter step" */
+static void take_change(struct book *book, const struct call *call)
+{
     if (call->kind == UPDATE)
-        memcpy(place_of(book, call->m), call->lent[NEW].bytes, B);
+        put_block(book, call->m, call->lent[NEW].bytes);
     else if (call->kind == DELETE)
-        memset(place_of(book, call->m), 0, B);
+        put_zeros(book, call->m);
+    else if (call->kind == BATCH)
+        take_items(book, &call->lent[ITEMS]);
     else
         add_blocks(book, &call->lent[call->kind == LOAD ? BLOCKS : NEW]);
     book->numbers.ctr++;

@@ -19,7 +19,7 @@ struct book {
 struct book book_start(const struct call *set_up);
 void book_end(struct book *book);
 
-/* What the book answers to an update, delete, append, load, draw or judge; it takes the call in. */
+/* What the book answers to an update, delete, append, load, batch, draw or judge; it takes the call in. */
 uint64_t book_answer(struct book *book, const struct call *call);
 
 /* Block m. */

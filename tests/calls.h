@@ -5,12 +5,12 @@
 #include "buffers.h"
 #include "legbaro.h"
 
-enum kind { SET_UP, UPDATE, DELETE, APPEND, LOAD, DRAW, JUDGE, PROVE, POSITIONS, KINDS };
+enum kind { SET_UP, UPDATE, DELETE, APPEND, LOAD, BATCH, DRAW, JUDGE, PROVE, POSITIONS, KINDS };
 
 /* The highest code of any call. */
-enum { LAST_CODE = LEGBARO_TOO_MANY_POSITIONS };
+enum { LAST_CODE = LEGBARO_BAD_BATCH };
 
-enum role { MASTER, ID, BLOCKS, CARD, TABLE, OLD, NEW, MESSAGE, REPLY, ROLES };
+enum role { MASTER, ID, BLOCKS, CARD, TABLE, OLD, NEW, ITEMS, MESSAGE, REPLY, ROLES };
 
 struct call {
     enum kind kind;

@@ -4,7 +4,9 @@
 #include "chance.h"
 #include "groups.h"
 
-/* The most blocks of a load that is not told how many. */
+#include <string.h>
+
+/* The most blocks of a load, and the most items of a batch, that is not told how many. */
 enum { A_FEW = 4 };
 
 /* A buffer of random bytes. */
@@ -73,6 +75,43 @@ static struct buffer honest_reply(const struct file *file)
     return reply;
 }
 
+size_t file_item_at(const struct file *file, size_t item, size_t offset)
+{
+    return item * LEGBARO_ITEM_BYTES(file->book.numbers.B) + offset;
+}
+
+/* Items on these blocks: each an update or a deletion, as it comes. */
+static struct buffer items_of(const struct file *file, const uint64_t *blocks, size_t count)
+{
+    uint64_t B = file->book.numbers.B;
+    struct buffer items = any_bytes(count * LEGBARO_ITEM_BYTES(B));
+    for (size_t e = 0; e < count; e++) {
+        buffer_put_number(&items, file_item_at(file, e, LEGBARO_ITEM_KIND), 1,
+                          chance_of(2) ? LEGBARO_ITEM_UPDATE : LEGBARO_ITEM_DELETE);
+        buffer_put_number(&items, file_item_at(file, e, LEGBARO_ITEM_BLOCK), 4, blocks[e]);
+        memcpy(items.bytes + file_item_at(file, e, LEGBARO_ITEM_OLD), book_block(&file->book, blocks[e]), B);
+    }
+    return items;
+}
+
+/* Items on so many of the file's blocks, any of them as likely as any other. */
+static struct buffer any_items(const struct file *file, size_t count)
+{
+    uint64_t n = file->book.numbers.n, blocks[LEGBARO_MOST_ITEMS + 1];
+    size_t chosen = 0;
+    for (uint64_t m = 1; m <= n && chosen < count; m++)
+        if (chance_below(n - m + 1) < count - chosen)
+            blocks[chosen++] = m;
+    return items_of(file, blocks, chosen);
+}
+
+/* One of the numbers from 1 to a few, and no more than the file has blocks. */
+static size_t a_few_items(const struct file *file)
+{
+    uint64_t n = file->book.numbers.n;
+    return 1 + chance_below(n < A_FEW ? n : A_FEW);
+}
+
 struct call file_call(const struct file *file, enum kind kind)
 {
     const struct card *numbers = &file->book.numbers;
@@ -89,6 +128,8 @@ struct call file_call(const struct file *file, enum kind kind)
         call.lent[OLD] = buffer_of(book_block(&file->book, call.m), numbers->B);
     if (call_takes(kind, NEW))
         call.lent[NEW] = any_bytes(numbers->B);
+    if (call_takes(kind, ITEMS))
+        call.lent[ITEMS] = any_items(file, a_few_items(file));
     if (call_takes(kind, MESSAGE))
         call.lent[MESSAGE] = buffer_copy(&file->message);
     if (call_takes(kind, REPLY))
@@ -102,6 +143,25 @@ struct call file_load_call(const struct file *file, uint64_t blocks)
     buffer_free(&call.lent[BLOCKS]);
     call.lent[BLOCKS] = any_bytes(blocks * file->book.numbers.B);
     return call;
+}
+
+/* A batch with these items. */
+static struct call batch_call(const struct file *file, struct buffer items)
+{
+    struct call call = file_call(file, BATCH);
+    buffer_free(&call.lent[ITEMS]);
+    call.lent[ITEMS] = items;
+    return call;
+}
+
+struct call file_batch_call(const struct file *file, size_t items)
+{
+    return batch_call(file, any_items(file, items));
+}
+
+struct call file_batch_of(const struct file *file, const uint64_t *blocks, size_t items)
+{
+    return batch_call(file, items_of(file, blocks, items));
 }
 
 /* Gives a buffer of the file the bytes that the call left in its own, where the call was lent one of that length. */
@@ -143,6 +203,12 @@ void file_do(struct file *file, enum kind kind)
 void file_load(struct file *file, uint64_t blocks)
 {
     struct call call = file_load_call(file, blocks);
+    run_accepted(file, &call);
+}
+
+void file_batch(struct file *file, size_t items)
+{
+    struct call call = file_batch_call(file, items);
     run_accepted(file, &call);
 }
 

@@ -20,20 +20,27 @@ struct file file_set_up(uint64_t B, uint64_t d, uint64_t r, uint64_t t, uint64_t
 void file_end(struct file *file);
 
 /* A call on the file with nothing wrong in its arguments: a change has a block number that exists, present bytes and a random new block, a
- * load a few random blocks, a proof the message drawn last and the current blocks, a judging the reply of such a proof. The state may
- * still turn it away. */
+ * load a few random blocks, a batch a few items, a proof the message drawn last and the current blocks, a judging the reply of such a
+ * proof. The state may still turn it away. */
 struct call file_call(const struct file *file, enum kind kind);
 
 /* A load of so many random blocks. */
 struct call file_load_call(const struct file *file, uint64_t blocks);
 
+/* A batch of updates and deletions, present bytes and random new blocks: of so many blocks, at most one more than a batch may have and
+ * no more than the file has, or of these blocks. A place in an item, counted from 0, where LEGBARO_ITEM_.. is the offset. */
+struct call file_batch_call(const struct file *file, size_t items);
+struct call file_batch_of(const struct file *file, const uint64_t *blocks, size_t items);
+size_t file_item_at(const struct file *file, size_t item, size_t offset);
+
 /* Runs a change, draw or judging: compared with the second implementation and with the book. The file takes the buffers that it left,
  * and the call is freed. Answers the number. */
 uint64_t file_run(struct file *file, struct call *call);
 
-/* `file_run` of `file_call`, and of `file_load_call`, expected to be accepted. */
+/* `file_run` of `file_call`, of `file_load_call` and of `file_batch_call`, expected to be accepted. */
 void file_do(struct file *file, enum kind kind);
 void file_load(struct file *file, uint64_t blocks);
+void file_batch(struct file *file, size_t items);
 
 /* Expects card and table to be the book's, byte for byte. */
 void file_expect_book(const struct file *file);

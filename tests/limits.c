@@ -13,6 +13,7 @@ static void round_of_calls(struct file *file)
     file_do(file, LOAD);
     file_do(file, UPDATE);
     file_do(file, DELETE);
+    file_do(file, BATCH);
     file_do(file, DRAW);
     file_do(file, JUDGE);
     file_expect_book(file);
@@ -46,6 +47,7 @@ static void most_block_bytes(void)
     group_begin("the most bytes in a block");
     struct file file =
         file_set_up(LEGBARO_MOST_BLOCK_BYTES, LEGBARO_MOST_POSITIONS + 1, LEGBARO_MOST_POSITIONS, 2, LEGBARO_MOST_POSITIONS);
+    file_batch(&file, LEGBARO_MOST_ITEMS);
     round_of_calls(&file);
     file_end(&file);
     group_end();
@@ -74,13 +76,24 @@ static void load_refused(const struct file *file, uint64_t blocks, uint64_t code
     call_finish(&call, code, "past the most");
 }
 
-/* Updates, deletions and an audit go on where no block can be added. */
+/* A batch of the most items, the last of them on the last block. */
+static void last_block_in_batch(struct file *file)
+{
+    uint64_t blocks[LEGBARO_MOST_ITEMS];
+    for (uint64_t e = 0; e < LEGBARO_MOST_ITEMS; e++)
+        blocks[e] = file->book.numbers.n - LEGBARO_MOST_ITEMS + 1 + e;
+    struct call call = file_batch_of(file, blocks, LEGBARO_MOST_ITEMS);
+    expect(file_run(file, &call) == LEGBARO_OK, "accepted");
+}
+
+/* Updates, deletions, batches and an audit go on where no block can be added. */
 static void full(struct file *file)
 {
     refused(file, APPEND, LEGBARO_FILE_FULL);
     load_refused(file, 1, LEGBARO_FILE_FULL);
     file_do(file, UPDATE);
     file_do(file, DELETE);
+    last_block_in_batch(file);
     file_do(file, DRAW);
     file_do(file, JUDGE);
     file_expect_book(file);
@@ -139,6 +152,7 @@ static void most_counter(void)
     refused(&file, DELETE, LEGBARO_COUNTER_AT_MOST);
     refused(&file, APPEND, LEGBARO_COUNTER_AT_MOST);
     refused(&file, LOAD, LEGBARO_COUNTER_AT_MOST);
+    refused(&file, BATCH, LEGBARO_COUNTER_AT_MOST);
     file_do(&file, DRAW);
     file_do(&file, JUDGE);
     file_expect_book(&file);

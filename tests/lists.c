@@ -33,12 +33,28 @@ static uint64_t no_such_block(const struct file *file)
     return numbers[chance_below(COUNT(numbers))];
 }
 
+/* An item that no batch may have: of another kind, or with a block number that the file does not have or the item before has. */
+static void disturb_item(const struct file *file, struct buffer *items)
+{
+    size_t count = items->length / LEGBARO_ITEM_BYTES(file->book.numbers.B), e = chance_below(count);
+    size_t kind = file_item_at(file, e, LEGBARO_ITEM_KIND), block = file_item_at(file, e, LEGBARO_ITEM_BLOCK);
+    uint64_t none[] = {0, file->book.numbers.n + 1, UINT32_MAX, file->book.numbers.n + 1 + chance_below(1000)};
+    if (chance_of(3))
+        buffer_put_number(items, kind, 1, LEGBARO_ITEM_DELETE + 1 + chance_below(254 - LEGBARO_ITEM_DELETE));
+    else if (e > 0 && chance_of(2))
+        buffer_put_number(items, block, 4, buffer_number(items, file_item_at(file, e - 1, LEGBARO_ITEM_BLOCK), 4));
+    else
+        buffer_put_number(items, block, 4, none[chance_below(COUNT(none))]);
+}
+
 /* Something wrong in what a list may hold: anything lent but card and table, the master's bytes and a block's present bytes. */
 static void disturb(const struct file *file, struct call *call)
 {
-    static const enum role lent[] = {MASTER, OLD, NEW, BLOCKS, MESSAGE, REPLY};
+    static const enum role lent[] = {MASTER, OLD, NEW, BLOCKS, ITEMS, MESSAGE, REPLY};
     enum role role = lent[chance_below(COUNT(lent))];
-    if (chance_of(4))
+    if (call->kind == BATCH && chance_of(2))
+        disturb_item(file, &call->lent[ITEMS]);
+    else if (chance_of(4))
         call->m = no_such_block(file);
     else if (call->kind == JUDGE && chance_of(2))
         flip_any_bit(&call->lent[REPLY]);
@@ -49,17 +65,28 @@ static void disturb(const struct file *file, struct call *call)
 /* Which call comes next: a drawn token is mostly judged, and drawing is rarer than changing. */
 static enum kind next_kind(const struct file *file)
 {
-    static const enum kind changes[] = {UPDATE, DELETE, APPEND, LOAD};
+    static const enum kind changes[] = {UPDATE, DELETE, APPEND, LOAD, BATCH};
     if (file->book.numbers.open ? chance_of(2) : chance_of(20))
         return JUDGE;
     return chance_of(5) ? DRAW : changes[chance_below(COUNT(changes))];
 }
 
-/* A call of the list with nothing wrong in it. A load has a few blocks or, at times, many. */
+/* The most items of a batch on the file as it is. */
+static uint64_t most_items(const struct file *file)
+{
+    uint64_t n = file->book.numbers.n;
+    return n < LEGBARO_MOST_ITEMS ? n : LEGBARO_MOST_ITEMS;
+}
+
+/* A call of the list with nothing wrong in it. A load or a batch has a few blocks or, at times, many. */
 static struct call next_call(const struct file *file)
 {
     enum kind kind = next_kind(file);
-    return kind == LOAD && chance_of(4) ? file_load_call(file, 1 + chance_below(MOST_LOADED)) : file_call(file, kind);
+    if (kind == LOAD && chance_of(4))
+        return file_load_call(file, 1 + chance_below(MOST_LOADED));
+    if (kind == BATCH && chance_of(4))
+        return file_batch_call(file, 1 + chance_below(most_items(file)));
+    return file_call(file, kind);
 }
 
 /* A call of the list. */
@@ -77,7 +104,7 @@ static void step(struct file *file)
 /* A call beside the list, on copies: any kind, with some bytes or lengths of any buffer altered. The book knows nothing of it. */
 static void aside(const struct file *file)
 {
-    static const enum kind kinds[] = {UPDATE, DELETE, APPEND, LOAD, DRAW, JUDGE, PROVE};
+    static const enum kind kinds[] = {UPDATE, DELETE, APPEND, LOAD, BATCH, DRAW, JUDGE, PROVE};
     struct call call = file_call(file, kinds[chance_below(COUNT(kinds))]);
     for (uint64_t faults = 1 + chance_below(2); faults; faults--) {
         enum role role = (enum role)chance_below(ROLES);

@@ -57,6 +57,7 @@ int main(int count, char **words)
     test_bad_records();
     test_bits();
     test_loads();
+    test_batches();
     test_plans();
     test_lists(options.lists);
     if (!options.exact) {

@@ -101,5 +101,7 @@ void test_order(void)
     order(7, 2, 100);
     order(40, 40, 97);
     order(64, 33, 500);
+    for (int i = 0; i < 20; i++)
+        order(9, 1, 9);
     group_end();
 }

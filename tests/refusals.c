@@ -44,6 +44,50 @@ static void broken_loads(const struct file *file)
     }
 }
 
+/* A batch of one item with one field altered; a batch of two items on blocks 2 and `second`. */
+static void broken_item(const struct file *file, size_t offset, unsigned width, uint64_t value, uint64_t code, const char *what)
+{
+    struct call call = file_batch_call(file, 1);
+    buffer_put_number(&call.lent[ITEMS], file_item_at(file, 0, offset), width, value);
+    call_finish(&call, code, what);
+}
+
+static void two_items(const struct file *file, uint64_t second, uint64_t code, const char *what)
+{
+    uint64_t blocks[] = {2, second};
+    struct call call = file_batch_of(file, blocks, 2);
+    call_finish(&call, code, what);
+}
+
+/* Code 14's small inputs: no item, an item less or more a byte, another kind, numbers that do not rise. */
+static void broken_batches(const struct file *file)
+{
+    static const size_t lengths[] = {0, LEGBARO_ITEM_BYTES(B) - 1, LEGBARO_ITEM_BYTES(B) + 1};
+    for (size_t i = 0; i < sizeof lengths / sizeof *lengths; i++) {
+        struct call call = file_batch_call(file, 1);
+        buffer_resize(&call.lent[ITEMS], lengths[i]);
+        call_finish(&call, LEGBARO_BAD_BATCH, "no whole items");
+    }
+    broken_item(file, LEGBARO_ITEM_KIND, 1, 0, LEGBARO_BAD_BATCH, "an item of kind 0");
+    broken_item(file, LEGBARO_ITEM_KIND, 1, 3, LEGBARO_BAD_BATCH, "an item of kind 3");
+    broken_item(file, LEGBARO_ITEM_BLOCK, 4, 0, LEGBARO_NO_SUCH_BLOCK, "an item on block 0");
+    broken_item(file, LEGBARO_ITEM_BLOCK, 4, D + 1, LEGBARO_NO_SUCH_BLOCK, "an item on block n + 1");
+    two_items(file, 1, LEGBARO_BAD_BATCH, "block 2, then block 1");
+    two_items(file, 2, LEGBARO_BAD_BATCH, "block 2 twice");
+    two_items(file, 3, LEGBARO_OK, "block 2, then block 3");
+}
+
+/* 64 items are taken, 65 are not. */
+static void most_items(void)
+{
+    struct file file = file_set_up(B, D, R, T, LEGBARO_MOST_ITEMS + 1);
+    struct call call = file_batch_call(&file, LEGBARO_MOST_ITEMS);
+    call_finish(&call, LEGBARO_OK, "64 items");
+    call = file_batch_call(&file, LEGBARO_MOST_ITEMS + 1);
+    call_finish(&call, LEGBARO_BAD_BATCH, "65 items");
+    file_end(&file);
+}
+
 /* Code 13's small input: one position, 513 planned rows, one block present. */
 static void too_many_positions(void)
 {
@@ -83,6 +127,7 @@ static void small_calls(struct file *file)
     call_finish(&call, LEGBARO_COUNTER_AT_MOST, "ctr 4,294,967,295");
 
     broken_loads(file);
+    broken_batches(file);
     refused(file, JUDGE, LEGBARO_NONE_OPEN, "judge after set-up");
     file_do(file, DRAW);
     refused(file, APPEND, LEGBARO_TOKEN_OPEN, "draw, append");
@@ -94,6 +139,7 @@ static void one_block(void)
     struct file file = file_set_up(B, D, R, T, 1);
     file_do(&file, UPDATE);
     file_do(&file, DELETE);
+    file_do(&file, BATCH);
     file_do(&file, DRAW);
     file_do(&file, JUDGE);
     file_do(&file, LOAD);
@@ -126,6 +172,7 @@ static void small_inputs(void)
     file_end(&file);
     outside_limits();
     too_many_positions();
+    most_items();
     last_token_drawn();
     taken();
     group_end();

@@ -18,6 +18,8 @@
         return before##_append##behind(LENT(MASTER), LENT(CARD), LENT(TABLE), LENT(NEW));                                      \
     case LOAD:                                                                                                                 \
         return before##_load##behind(LENT(MASTER), LENT(CARD), LENT(TABLE), LENT(BLOCKS));                                     \
+    case BATCH:                                                                                                                \
+        return before##_batch##behind(LENT(MASTER), LENT(CARD), LENT(TABLE), LENT(ITEMS));                                     \
     case DRAW:                                                                                                                 \
         return before##_draw##behind(LENT(MASTER), LENT(CARD), LENT(MESSAGE));                                                 \
     case JUDGE:                                                                                                                \

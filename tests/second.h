@@ -7,6 +7,8 @@
  *   struct card, second_read_card, second_write_card   the numbers of a card, and their bytes
  *   second_fresh_records                    the records of unused tokens, reckoned from the blocks
  *   struct edit                             what a change hands over
+ *   struct item, second_item                an item of a batch
+ *   second_token                            the token in a record of a table
  *   second_change_fault, second_draw_fault, second_judge_fault   the code of a call that is turned away, 0 for none
  *   second_verdict                          0 or 11
  *   second_half_width, second_permuted, second_permuted_back   the permutation P
@@ -19,13 +21,16 @@
 
 #include "legbaro.h"
 
+enum { TOKEN_BYTES = 32 };
+
 struct card {
     uint8_t id[LEGBARO_ID_BYTES];
     uint64_t B, d, r, t, n, ctr, next, open;
 };
 
-/* An update and a deletion have a block number and an old block; an update and an append a new block, a load new blocks end to end. */
-enum edit_kind { EDIT_UPDATE, EDIT_DELETE, EDIT_APPEND, EDIT_LOAD };
+/* An update and a deletion have a block number and an old block; an update and an append a new block, a load new blocks end to end; a batch
+ * has its items end to end. */
+enum edit_kind { EDIT_UPDATE, EDIT_DELETE, EDIT_APPEND, EDIT_LOAD, EDIT_BATCH };
 
 struct edit {
     enum edit_kind kind;
@@ -34,6 +39,13 @@ struct edit {
     size_t old_length;
     const uint8_t *new_blocks;
     size_t new_length;
+    const uint8_t *items;
+    size_t items_length;
+};
+
+struct item {
+    uint64_t kind, m;
+    const uint8_t *old_block, *new_block;
 };
 
 void second_start(void);
@@ -69,6 +81,11 @@ uint64_t second_load(const uint8_t *master, size_t master_length,
                      uint8_t *table, size_t table_length,
                      const uint8_t *blocks, size_t blocks_length);
 
+uint64_t second_batch(const uint8_t *master, size_t master_length,
+                      uint8_t *card, size_t card_length,
+                      uint8_t *table, size_t table_length,
+                      const uint8_t *items, size_t items_length);
+
 uint64_t second_draw(const uint8_t *master, size_t master_length,
                      uint8_t *card, size_t card_length,
                      uint8_t *message, size_t message_length);
@@ -91,6 +108,13 @@ void second_write_card(uint8_t *bytes, const struct card *c);
 /* Writes records `first` to `last` of a table: each token over the card's n blocks, sealed at the card's counter. */
 void second_fresh_records(const uint8_t *master, const struct card *c, const uint8_t *blocks, uint64_t first, uint64_t last,
                           uint8_t *table);
+
+/* Item e, from 0, of items for blocks of B bytes; how many bytes each has. */
+struct item second_item(const uint8_t *items, uint64_t B, size_t e);
+size_t second_item_bytes(uint64_t B);
+
+/* Whether record i of a table opens at the card's counter; its token where it does. */
+int second_token(const uint8_t *master, const struct card *c, const uint8_t *table, uint64_t i, uint8_t *token);
 
 /* The code of a change, code 7 apart, of a draw, and of a judging before its verdict. */
 uint64_t second_change_fault(const struct edit *edit, size_t master_length, const uint8_t *card, size_t card_length,

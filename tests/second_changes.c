@@ -1,11 +1,11 @@
-/* The second implementation's changes: update, delete, append and load. See second.h. */
+/* The second implementation's changes: update, delete, append, load and batch. See second.h. */
 #include "second_parts.h"
 
 #include <stdlib.h>
 
 /* ---- What is turned away ---- */
 
-/* "1 for sizes that follow from fields": of what is handed over. A load's length is looked at later. */
+/* "1 for sizes that follow from fields": of what is handed over. The lengths of a load and of a batch are looked at later. */
 static int handed_fits(const struct edit *edit, const struct card *c)
 {
     int has_old = edit->kind == EDIT_UPDATE || edit->kind == EDIT_DELETE;
@@ -14,7 +14,7 @@ static int handed_fits(const struct edit *edit, const struct card *c)
 }
 
 /* "4, 5"; of a load "just before 5, a load of no bytes or of a length that B doesn't divide (12)", and "code 5 covers one passing the
- * most n" */
+ * most n"; of a batch 14 "just before 4" */
 static uint64_t place_fault(const struct edit *edit, const struct card *c)
 {
     switch (edit->kind) {
@@ -24,6 +24,8 @@ static uint64_t place_fault(const struct edit *edit, const struct card *c)
         if (edit->new_length == 0 || edit->new_length % c->B != 0)
             return LEGBARO_NOT_WHOLE_BLOCKS;
         return edit->new_length / c->B > LEGBARO_MOST_BLOCKS - c->n ? LEGBARO_FILE_FULL : LEGBARO_OK;
+    case EDIT_BATCH:
+        return items_fault(edit->items, edit->items_length, c);
     default:
         return within(1, edit->m, c->n) ? LEGBARO_OK : LEGBARO_NO_SUCH_BLOCK;
     }
@@ -48,41 +50,47 @@ uint64_t second_change_fault(const struct edit *edit, size_t master_length, cons
 
 /* ---- The blocks that are changed ---- */
 
-/* Block m was old_block, null for none, and becomes new_block. */
-struct block_change {
-    uint64_t m;
-    const uint8_t *old_block, *new_block;
-};
-
 /* A change is a list of these. */
 struct work {
     struct block_change *items;
     size_t count;
 };
 
-static struct block_change only_change(const struct edit *edit, const struct card *c)
+static size_t changed_blocks(const struct edit *edit, const struct card *c)
 {
-    static const uint8_t zeros[LEGBARO_MOST_BLOCK_BYTES];
-    struct block_change item = {edit->m, edit->old_block, edit->kind == EDIT_DELETE ? zeros : edit->new_blocks};
-    if (edit->kind == EDIT_APPEND) {
-        item.m = c->n + 1;
-        item.old_block = NULL;
+    switch (edit->kind) {
+    case EDIT_LOAD:
+        return edit->new_length / c->B;
+    case EDIT_BATCH:
+        return item_count(edit->items_length, c);
+    default:
+        return 1;
     }
-    return item;
+}
+
+/* Change e, from 0, of an edit without a fault. */
+static struct block_change change_at(const struct edit *edit, const struct card *c, size_t e)
+{
+    switch (edit->kind) {
+    case EDIT_UPDATE:
+        return (struct block_change){edit->m, edit->old_block, edit->new_blocks};
+    case EDIT_DELETE:
+        return (struct block_change){edit->m, edit->old_block, deleted_block};
+    case EDIT_BATCH:
+        return item_change(edit->items, c, e);
+    default:
+        return (struct block_change){c->n + 1 + e, NULL, edit->new_blocks + e * c->B};
+    }
 }
 
 /* The list of an edit without a fault; its items are to be freed. */
 static struct work work_of(const struct edit *edit, const struct card *c)
 {
-    struct work work = {.count = edit->kind == EDIT_LOAD ? edit->new_length / c->B : 1};
+    struct work work = {.count = changed_blocks(edit, c)};
     work.items = malloc(work.count * sizeof *work.items);
     must(work.items != NULL);
-    if (edit->kind != EDIT_LOAD) {
-        work.items[0] = only_change(edit, c);
-        return work;
-    }
     for (size_t e = 0; e < work.count; e++)
-        work.items[e] = (struct block_change){c->n + 1 + e, NULL, edit->new_blocks + e * c->B};
+        work.items[e] = change_at(edit, c, e);
     return work;
 }
 
@@ -149,7 +157,12 @@ uint64_t second_update(const uint8_t *master, size_t master_length,
                        const uint8_t *old_block, size_t old_block_length,
                        const uint8_t *new_block, size_t new_block_length)
 {
-    struct edit edit = {EDIT_UPDATE, m, old_block, old_block_length, new_block, new_block_length};
+    struct edit edit = {.kind = EDIT_UPDATE,
+                        .m = m,
+                        .old_block = old_block,
+                        .old_length = old_block_length,
+                        .new_blocks = new_block,
+                        .new_length = new_block_length};
     return change(&edit, master, master_length, card, card_length, table, table_length);
 }
 
@@ -159,7 +172,7 @@ uint64_t second_delete(const uint8_t *master, size_t master_length,
                        uint64_t m,
                        const uint8_t *old_block, size_t old_block_length)
 {
-    struct edit edit = {EDIT_DELETE, m, old_block, old_block_length, NULL, 0};
+    struct edit edit = {.kind = EDIT_DELETE, .m = m, .old_block = old_block, .old_length = old_block_length};
     return change(&edit, master, master_length, card, card_length, table, table_length);
 }
 
@@ -168,7 +181,7 @@ uint64_t second_append(const uint8_t *master, size_t master_length,
                        uint8_t *table, size_t table_length,
                        const uint8_t *new_block, size_t new_block_length)
 {
-    struct edit edit = {EDIT_APPEND, 0, NULL, 0, new_block, new_block_length};
+    struct edit edit = {.kind = EDIT_APPEND, .new_blocks = new_block, .new_length = new_block_length};
     return change(&edit, master, master_length, card, card_length, table, table_length);
 }
 
@@ -177,6 +190,15 @@ uint64_t second_load(const uint8_t *master, size_t master_length,
                      uint8_t *table, size_t table_length,
                      const uint8_t *blocks, size_t blocks_length)
 {
-    struct edit edit = {EDIT_LOAD, 0, NULL, 0, blocks, blocks_length};
+    struct edit edit = {.kind = EDIT_LOAD, .new_blocks = blocks, .new_length = blocks_length};
+    return change(&edit, master, master_length, card, card_length, table, table_length);
+}
+
+uint64_t second_batch(const uint8_t *master, size_t master_length,
+                      uint8_t *card, size_t card_length,
+                      uint8_t *table, size_t table_length,
+                      const uint8_t *items, size_t items_length)
+{
+    struct edit edit = {.kind = EDIT_BATCH, .items = items, .items_length = items_length};
     return change(&edit, master, master_length, card, card_length, table, table_length);
 }

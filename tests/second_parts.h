@@ -4,7 +4,8 @@
  *   second_records.c       numbers and bytes, card and message, limits
  *   second_permutation.c   the permutation P
  *   second_tokens.c        keys, tokens, token records
- *   second_changes.c       update, delete, append, load
+ *   second_changes.c       update, delete, append, load, batch
+ *   second_batches.c       the items of a batch
  *   second_audits.c        set-up, draw, judge, the host's proof
  *   second_plans.c         positions
  */
@@ -13,7 +14,7 @@
 
 #include "second.h"
 
-enum { KEY_BYTES = 32, TOKEN_BYTES = 32, NONCE_BYTES = 12 };
+enum { KEY_BYTES = 32, NONCE_BYTES = 12 };
 
 struct message {
     uint8_t id[LEGBARO_ID_BYTES];
@@ -73,5 +74,21 @@ void digest(const uint8_t *k, const uint8_t *c, uint64_t d, uint64_t r, size_t B
 uint8_t *record_at(uint8_t *table, uint64_t i);
 void seal(uint8_t *record, uint64_t ctr, uint64_t i, const uint8_t *token);
 int open_record(const uint8_t *record, uint64_t ctr, uint64_t i, uint8_t *token);
+
+/* ---- second_batches.c ---- */
+
+/* Block m was old_block, null for none, and becomes new_block. */
+struct block_change {
+    uint64_t m;
+    const uint8_t *old_block, *new_block;
+};
+
+/* B zero bytes, for the greatest B. */
+extern const uint8_t deleted_block[LEGBARO_MOST_BLOCK_BYTES];
+
+/* The code that the items give (14, then 4); and of items without a fault how many there are, and the change that one makes. */
+uint64_t items_fault(const uint8_t *items, size_t length, const struct card *c);
+size_t item_count(size_t length, const struct card *c);
+struct block_change item_change(const uint8_t *items, const struct card *c, size_t e);
 
 #endif

@@ -172,6 +172,12 @@ int open_record(const uint8_t *record, uint64_t ctr, uint64_t i, uint8_t *token)
     return EVP_DecryptFinal_ex(opening, token + length, &length) > 0;
 }
 
+int second_token(const uint8_t *master, const struct card *c, const uint8_t *table, uint64_t i, uint8_t *token)
+{
+    use_keys(master, c->id);
+    return open_record(table + (i - 1) * LEGBARO_RECORD_BYTES, c->ctr, i, token);
+}
+
 void second_fresh_records(const uint8_t *master, const struct card *c, const uint8_t *blocks, uint64_t first, uint64_t last,
                           uint8_t *table)
 {

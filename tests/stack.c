@@ -53,6 +53,8 @@ void test_stack(void)
     expect_small(file_load_call(&file, 1));
     expect_small(file_load_call(&file, 60));
     expect_small(file_load_call(&file, 600));
+    expect_small(file_batch_call(&file, 1));
+    expect_small(file_batch_call(&file, LEGBARO_MOST_ITEMS));
     expect_small(file_call(&file, DRAW));
     file_do(&file, DRAW);
     expect_small(file_call(&file, PROVE));

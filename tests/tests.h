@@ -20,6 +20,9 @@ void test_bits(void);
 /* Loads of many sizes, and set-ups with fewer, as many and more blocks than rows. */
 void test_loads(void);
 
+/* Batches of every size, their faults, and batches beside the same changes made singly. */
+void test_batches(void);
+
 /* How many positions to draw of planned rows. */
 void test_plans(void);
 

@@ -12,6 +12,8 @@ int main(void)
     static uint8_t blocks[(D + 2) * B], card[LEGBARO_CARD_BYTES], table[T * LEGBARO_RECORD_BYTES];
     static uint8_t message[LEGBARO_MESSAGE_BYTES], reply[LEGBARO_REPLY_BYTES];
     static const uint8_t block[B] = {3}, two[2 * B] = {0};
+    static const uint8_t items[2 * LEGBARO_ITEM_BYTES(B)] = {LEGBARO_ITEM_UPDATE, 0, 0, 0, 2, 0, 0, 0, 0, 0, 0, 0, 0,
+                                                             LEGBARO_ITEM_DELETE, 0, 0, 0, 3};
     uint64_t numbers = 0;
 
     numbers |= legbaro_set_up(master, sizeof master, id, sizeof id, B, D, R, T, D - 1, blocks, (D - 1) * B, card, sizeof card, table,
@@ -20,6 +22,7 @@ int main(void)
     numbers |= legbaro_load(master, sizeof master, card, sizeof card, table, sizeof table, two, sizeof two);
     numbers |= legbaro_update(master, sizeof master, card, sizeof card, table, sizeof table, 1, zeros, sizeof zeros, block, sizeof block);
     numbers |= legbaro_delete(master, sizeof master, card, sizeof card, table, sizeof table, 1, block, sizeof block);
+    numbers |= legbaro_batch(master, sizeof master, card, sizeof card, table, sizeof table, items, sizeof items);
     numbers |= legbaro_draw(master, sizeof master, card, sizeof card, message, sizeof message);
     numbers |= legbaro_prove(message, sizeof message, blocks, sizeof blocks, table, sizeof table, reply, sizeof reply);
     numbers |= legbaro_judge(master, sizeof master, card, sizeof card, reply, sizeof reply);

@@ -2,8 +2,7 @@
 // Every function equals a definition of specs/ or of the scheme's Table at the standard primitives. Nothing is assumed.
 // What a token needs to work in is made once a call and lent to every token; a block change that comes alone needs none.
 ghost use mathlib.Core.Path.{_≡_};
-ghost use mathlib.Core.Logic.{_≢_};
-ghost use mathlib.Core.Bool.{true};
+ghost use mathlib.Core.Bool.{true, false};
 ghost use mathlib.Core.List.{List};
 ghost use Prim.Native.Nat.{ℕ, _+_, _*_, _-_, _≤_, _<_};
 ghost use lib.ListN.{length};
@@ -13,14 +12,15 @@ ghost use Rattle.scheme.specs.Table as T;
 ghost use Rattle.standard.specs.Standard.{standard};
 ghost use Rattle.records.specs.Fields.{cardOf};
 ghost use Rattle.tokens.specs.Keyed.{Keyed};
-ghost use Rattle.works.specs.Items.{itemsOf, Lent, Room};
+ghost use Rattle.items.specs.Items.{itemsOf, alone, Lent};
+ghost use Rattle.works.specs.Runs.{Room};
 ghost use Rattle.reseals.specs.Resealed.{Opens, Shaped, resealedUnder};
 
 // Reseals record i, which opens: its token is opened, changed and sealed at the next counter. The other records keep their bytes.
 fn reseal_one(
     keys: tokens::Keys,
     c: records::Card,
-    work: works::Work,
+    work: items::Work,
     old: &[u8],
     new: &[u8],
     i: counts::Token,
@@ -31,7 +31,7 @@ fn reseal_one(
     p: &mut [u8],
 )
     requires { ⌜ (c .counter < 4294967295) × Shaped c work × Lent work (now old) (now new) ⌝ }
-    requires { ⌜ (work .count ≢ 1 → Room (now walks) (now starts) (now ends) (now p)) ⌝ }
+    requires { ⌜ (alone work ≡ false → Room (now walks) (now starts) (now ends) (now p)) ⌝ }
     requires { ⌜ (1 ≤ i .0) × (i .0 ≤ 65536) × (i .0 * 63 ≤ length (now table)) ⌝ }
     requires { ⌜ T.there (T.tokenIn standard (keys .k) (c .counter) (i .0) (recordAt (i .0) (now table))) ≡ true ⌝ }
     ensures { λ _. ⌜ length (resealedUnder keys (cardOf c) (itemsOf work (now (old .entry)) (now (new .entry))) (i .0) (recordAt (i .0) (now (table .entry)))) ≡ 63 ⌝ }
@@ -49,7 +49,7 @@ fn reseal_one(
 fn reseal_in(
     keys: tokens::Keys,
     c: records::Card,
-    work: works::Work,
+    work: items::Work,
     old: &[u8],
     new: &[u8],
     table: &mut [u8],
@@ -59,7 +59,7 @@ fn reseal_in(
     p: &mut [u8],
 )
     requires { ⌜ Opens (keys .k) c (now table) × Shaped c work × Lent work (now old) (now new) ⌝ }
-    requires { ⌜ (work .count ≢ 1 → Room (now walks) (now starts) (now ends) (now p)) ⌝ }
+    requires { ⌜ (alone work ≡ false → Room (now walks) (now starts) (now ends) (now p)) ⌝ }
     ensures { λ _. ⌜ ((master : List ℕ) → Keyed master (c .id) keys → now (table .exit) ≡ T.reseal standard master (cardOf c) (itemsOf work (now (old .entry)) (now (new .entry))) (c .tokens + 1 - c .next) (c .next) (now (table .entry))) ⌝ }
 {
     let mut i = c.next;
@@ -85,7 +85,7 @@ fn reseal_in(
 pub fn reseal(
     keys: tokens::Keys,
     c: records::Card,
-    work: works::Work,
+    work: items::Work,
     old: &[u8],
     new: &[u8],
     table: &mut [u8],
@@ -93,7 +93,8 @@ pub fn reseal(
     requires { ⌜ Opens (keys .k) c (now table) × Shaped c work × Lent work (now old) (now new) ⌝ }
     ensures { λ _. ⌜ ((master : List ℕ) → Keyed master (c .id) keys → now (table .exit) ≡ T.reseal standard master (cardOf c) (itemsOf work (now (old .entry)) (now (new .entry))) (c .tokens + 1 - c .next) (c .next) (now (table .entry))) ⌝ }
 {
-    if work.count == 1 {
+    let one = items::alone(work);
+    if one {
         let mut walks = [0u16; 1];
         let mut starts = [0u64; 1];
         let mut ends = [0u64; 1];

@@ -52,7 +52,7 @@ module _ (P : Primitives) (master : List ℕ) (c : Card) where
       pub bad : Bad i
       pub below : (j : ℕ) → Unused c j → j < i → Opens j (recordAt j table)
 
--- what a change checks before the records of the table: every test holds, and so none of 1, 2, 3, 8, 4, 12, 5 and 10 is its answer
+-- what a change checks before the records of the table: every test holds, and so none of 1, 2, 3, 8, 14, 4, 12, 5 and 10 is its answer
 abbrev pub Unrefused : Primitives → List ℕ → List ℕ → List ℕ → Edit → Type 0
 Unrefused P master card table edit = Holds (changeChecks P master card table edit)
 

@@ -1,10 +1,10 @@
 -- Each refusal's small input, and pairs of faults in the order of "Turned away", computed over the stand-ins. Assumes nothing.
---   small-inputs, loads, positions   the column "Small input", the limits that moved, and calls that are accepted
---   lowest                           the token that code 7 names
---   in-order, loads-in-order         pairs of faults
-use Prim.Native.Nat.{_+_, _*_}
+--   small-inputs, loads, batches, positions       the column "Small input", the limits that moved, and calls that are accepted
+--   lowest                                        the token that code 7 names
+--   in-order, loads-in-order, batches-in-order    pairs of faults
+use Prim.Native.Nat.{ℕ, zero, suc, _+_, _*_}
 use mathlib.Core.Path.{_≡_, refl}
-use mathlib.Core.List.{[], _∷_}
+use mathlib.Core.List.{List, [], _∷_, _++_}
 use lib.ListN.{set, replicate}
 use Rattle.octets.specs.Octets.{le, be, ofLe, ofBe, same, xors}
 use Rattle.scheme.specs.Ladder.{first}
@@ -14,9 +14,10 @@ use Rattle.scheme.specs.Records.{messageBytes, readMessage, messageFits}
 use Rattle.scheme.specs.Tokens.{blockIn, columnsOf, blockAt, indexOf, keyW, keyZ, keyK, drawKey, hashKey, blockHash}
 use Rattle.scheme.specs.Tokens.{columnHash, drawnRow, rowDigest, digest, token}
 use Rattle.scheme.specs.Table.{sealedRecord, bodyIn, tokenIn, firstBad}
-use Rattle.scheme.specs.Calls.{setUpCode, unusedBad, changeCode, updateCode, deleteCode, appendCode, loadCode, positionsFor, positionsCode, drawCode, messageFor}
-use Rattle.scheme.specs.Calls.{drawMessage, judgeFault, judgeCode, proveCode}
-use Rattle.scheme.proofs.Computed.{standIn, key, id, cardIn, cardOf, second, tableOf, flipped, bothFlipped, blank, drawn}
+use Rattle.scheme.specs.Batches.{itemSize, readItem, itemsFrom, itemsOf, kindsFit, risingFrom, rising, batchFits, numbersFit}
+use Rattle.scheme.specs.Calls.{setUpCode, unusedBad, changeCode, updateCode, deleteCode, appendCode, loadCode, batchCode, positionsFor, positionsCode, drawCode}
+use Rattle.scheme.specs.Calls.{messageFor, drawMessage, judgeFault, judgeCode, proveCode}
+use Rattle.scheme.proofs.Computed.{standIn, key, id, cardIn, cardOf, second, item, tableOf, flipped, bothFlipped, blank, drawn}
 
 pub small-inputs : (updateCode standIn key (replicate 42 0) (tableOf 0) 1 (5 ∷ []) (9 ∷ []) ≡ 1)
     × (updateCode standIn key (second (cardOf 1 2 0 1 0)) (tableOf 0) 1 (5 ∷ []) (9 ∷ []) ≡ 2)
@@ -46,10 +47,12 @@ pub lowest : (updateCode standIn key (cardOf 1 2 0 1 0) (bothFlipped 0) 1 (5 ∷
     × (appendCode standIn key (cardOf 1 2 0 2 0) (bothFlipped 0) (9 ∷ []) ≡ 7 + 256 * 2)
     × (loadCode standIn key (cardOf 1 2 0 2 0) (bothFlipped 0) (8 ∷ 9 ∷ []) ≡ 7 + 256 * 2)
     × (loadCode standIn key (cardOf 1 2 0 3 0) (bothFlipped 0) (8 ∷ 9 ∷ []) ≡ 0)
+    × (batchCode standIn key (cardOf 1 2 0 2 0) (bothFlipped 0) (item 1 1 5 9 ++ item 2 2 6 0) ≡ 7 + 256 * 2)
+    × (batchCode standIn key (cardOf 1 2 0 3 0) (bothFlipped 0) (item 1 1 5 9 ++ item 2 2 6 0) ≡ 0)
 unfolding be le ofBe ofLe same xors first xorBelow recordsFrom cardBytes readCard shapeFits tokenFits blocksFit cardFits headFits clearBytes
     nonceBytes recordAt columnsOf blockIn blockAt indexOf keyW keyZ keyK drawKey hashKey blockHash columnHash drawnRow rowDigest digest token sealedRecord
-    bodyIn tokenIn firstBad unusedBad changeCode
-lowest = (refl, refl, refl, refl, refl, refl)
+    bodyIn tokenIn firstBad unusedBad changeCode itemSize readItem itemsFrom itemsOf kindsFit risingFrom rising batchFits numbersFit
+lowest = (refl, refl, refl, refl, refl, refl, refl, refl)
 
 -- "Order: 1 for buffers of fixed size, 2, 3, 1 for sizes that follow from fields, then 8 or 9, 6, 4, 5, 10, 7"
 pub in-order : (updateCode standIn [] (second (cardOf 1 2 0 1 0)) (tableOf 0) 1 (5 ∷ []) (9 ∷ []) ≡ 1)
@@ -121,6 +124,46 @@ unfolding be le ofBe ofLe same xors first xorBelow recordsFrom cardBytes readCar
     nonceBytes recordAt columnsOf blockIn blockAt indexOf keyW keyZ keyK drawKey hashKey blockHash columnHash drawnRow rowDigest digest token sealedRecord
     bodyIn tokenIn firstBad unusedBad setUpCode changeCode drawCode judgeFault judgeCode
 loads-in-order = (refl, refl, refl, refl, refl, refl, refl, refl)
+
+-- so many items, which replace one block after the other
+abbrev itemsTo : ℕ → List ℕ
+itemsTo zero = []
+itemsTo (suc k) = itemsTo k ++ item 1 (suc k) 5 9
+
+-- #104: "1 to 64 items, each a kind byte (1 update, 2 delete)"; "a batch of another size or kind, or with numbers that don't rise (14)"; code 4
+pub batches : (batchCode standIn key (cardOf 1 2 0 1 0) (tableOf 0) (item 1 1 5 9 ++ item 2 2 6 0) ≡ 0)
+    × (batchCode standIn key (cardOf 1 2 0 1 0) (tableOf 0) (item 2 2 6 9) ≡ 0)
+    × (batchCode standIn key (cardOf 1 2 0 1 0) (tableOf 0) [] ≡ 14)
+    × (batchCode standIn key (cardOf 1 64 0 1 0) (tableOf 0) (itemsTo 64) ≡ 0)
+    × (batchCode standIn key (cardOf 1 65 0 1 0) (tableOf 0) (itemsTo 65) ≡ 14)
+    × (batchCode standIn key (cardOf 1 2 0 1 0) (tableOf 0) (item 1 1 5 9 ++ 1 ∷ []) ≡ 14)
+    × (batchCode standIn key (cardOf 1 2 0 1 0) (tableOf 0) (1 ∷ 0 ∷ 0 ∷ 0 ∷ 1 ∷ 5 ∷ []) ≡ 14)
+    × (batchCode standIn key (cardIn 2 1 2 0 1 0) (tableOf 0) (1 ∷ 0 ∷ 0 ∷ 0 ∷ 1 ∷ 5 ∷ 5 ∷ 9 ∷ 9 ∷ []) ≡ 0)
+    × (batchCode standIn key (cardOf 1 2 0 1 0) (tableOf 0) (item 0 1 5 9) ≡ 14)
+    × (batchCode standIn key (cardOf 1 2 0 1 0) (tableOf 0) (item 1 1 5 9 ++ item 3 2 6 9) ≡ 14)
+    × (batchCode standIn key (cardOf 1 2 0 1 0) (tableOf 0) (item 1 1 5 9 ++ item 2 1 9 0) ≡ 14)
+    × (batchCode standIn key (cardOf 1 2 0 1 0) (tableOf 0) (item 1 2 6 9 ++ item 1 1 5 9) ≡ 14)
+    × (batchCode standIn key (cardOf 1 2 0 1 0) (tableOf 0) (item 1 0 5 9 ++ item 2 2 6 0) ≡ 4)
+    × (batchCode standIn key (cardOf 1 2 0 1 0) (tableOf 0) (item 1 1 5 9 ++ item 2 3 6 0) ≡ 4)
+    × (batchCode standIn key (cardOf 1 2 0 1 0) (flipped 0) (item 1 1 5 9) ≡ 7 + 256 * 2)
+unfolding be le ofBe ofLe same xors first xorBelow recordsFrom cardBytes readCard shapeFits tokenFits blocksFit cardFits headFits clearBytes
+    nonceBytes recordAt columnsOf blockIn blockAt indexOf keyW keyZ keyK drawKey hashKey blockHash columnHash drawnRow rowDigest digest token sealedRecord
+    bodyIn tokenIn firstBad unusedBad changeCode itemSize readItem itemsFrom itemsOf kindsFit risingFrom rising batchFits numbersFit
+batches = (refl, refl, refl, refl, refl, refl, refl, refl, refl, refl, refl, refl, refl, refl, refl)
+
+-- 14 stands behind 8 and before 4, 4 before 10, 10 before 7
+pub batches-in-order : (batchCode standIn key (second (cardOf 3 2 0 1 0)) (tableOf 0) [] ≡ 2)
+    × (batchCode standIn key (cardOf 3 2 0 1 0) [] [] ≡ 3)
+    × (batchCode standIn key (cardOf 1 2 0 2 1) [] [] ≡ 1)
+    × (batchCode standIn key (cardOf 1 2 0 2 1) (tableOf 0) [] ≡ 8)
+    × (batchCode standIn key (cardOf 1 2 0 1 0) (tableOf 0) (item 1 3 5 9 ++ item 1 0 5 9) ≡ 14)
+    × (batchCode standIn key (cardOf 1 2 4294967295 1 0) (tableOf 4294967295) (item 3 1 5 9) ≡ 14)
+    × (batchCode standIn key (cardOf 1 2 4294967295 1 0) (tableOf 4294967295) (item 1 3 5 9) ≡ 4)
+    × (batchCode standIn key (cardOf 1 2 4294967295 1 0) (flipped 4294967295) (item 1 1 5 9) ≡ 10)
+unfolding be le ofBe ofLe same xors first xorBelow recordsFrom cardBytes readCard shapeFits tokenFits blocksFit cardFits headFits clearBytes
+    nonceBytes recordAt columnsOf blockIn blockAt indexOf keyW keyZ keyK drawKey hashKey blockHash columnHash drawnRow rowDigest digest token sealedRecord
+    bodyIn tokenIn firstBad unusedBad changeCode itemSize readItem itemsFrom itemsOf kindsFit risingFrom rising batchFits numbersFit
+batches-in-order = (refl, refl, refl, refl, refl, refl, refl, refl)
 
 -- "positions as r × planned rows / present blocks, rounded up"; "r is at most 512 and the present blocks, and these at most the planned rows, else 3"; "after 3,
 -- more than 512 positions (13)"

@@ -24,7 +24,7 @@ use Rattle.scheme.specs.Primitives.{Primitives}
 use Rattle.scheme.specs.Records.{Card, cardBytes, readCard, headFits, nonceBytes, recordAt}
 use Rattle.scheme.specs.Tokens.{Change, keyK, drawKey, hashKey, workedDigest}
 use Rattle.scheme.specs.Table.{there, value, bodyIn, tokenIn, resealedRecord, reseal}
-use Rattle.scheme.specs.Calls.{Edit, update, delete, append, load, workOf, blocksAfter, changedCard, unusedBad, changeCode, changeCard, changeTable}
+use Rattle.scheme.specs.Calls.{Edit, update, delete, append, load, batch, workOf, blocksAfter, changedCard, unusedBad, changeCode, changeCard, changeTable}
 use Rattle.scheme.proofs.TokenLaws.{length-worked}
 use Rattle.scheme.proofs.RecordLaws.{card-back, token-back, record-long}
 use Rattle.scheme.proofs.LimitLaws.{Limits, card-limits, limits-small}
@@ -176,9 +176,10 @@ module _ (P : Primitives) where
       → (1 ≤ blocksAfter c edit) × (blocksAfter c edit ≤ 16777216)
   blocks-fit master c table (update m old new) u = let l = card-limits c (u .fits) in (l .n1, l .nmost)
   blocks-fit master c table (delete m old) u = let l = card-limits c (u .fits) in (l .n1, l .nmost)
-  blocks-fit master c table (append new) u = (omega arith, omega (arith, ltb-true (c .n) 16777216 (u .placed .0)))
+  blocks-fit master c table (append new) u = (omega arith, omega (arith, ltb-true (c .n) 16777216 (u .placed 5)))
   blocks-fit master c table (load blocks) u =
-      (omega (arith, card-limits c (u .fits) .n1), leb-true (c .n + length blocks / c .B) 16777216 (u .placed .1 .0))
+      (omega (arith, card-limits c (u .fits) .n1), leb-true (c .n + length blocks / c .B) 16777216 (u .placed 5))
+  blocks-fit master c table (batch items) u = let l = card-limits c (u .fits) in (l .n1, l .nmost)
 
   -- an accepted change
   module _ (master card table : List ℕ) (edit : Edit) (ok : changeCode P master card table edit ≡ 0) where

@@ -1,31 +1,35 @@
 -- One change of several blocks beside changes made singly: the tokens inside are the same; only the counter and the sealing differ. Assumes nothing.
---   calls, AllAccepted     changes as calls of their own, all accepted
---   workSingly, cardAfter  the block changes that they make together, and the card after them
---   Alike, alike           what is the same, of any change that makes the same block changes
---   appends, load-singly   #101: a load, and its blocks appended one by one
+--   calls, AllAccepted          changes as calls of their own, all accepted
+--   workSingly, cardAfter       the block changes that they make together, and the card after them
+--   Alike, alike                what is the same, of any change that makes the same block changes
+--   appends, load-singly        #101: a load, and its blocks appended one by one
+--   corrections, batch-singly   #104: a batch, and its items as updates and deletions
 use Prim.Native.Nat.{ℕ, zero, suc, _+_, _*_, _-_, _/_, _%_, _≤_, _<_}
 use native.Mathlib.Omega.{arith}
 use native.Mathlib.Nat.{div-add-mod', zero-mul}
 use mathlib.Core.Path.{_≡_, refl, sym, ap, _∙_}
 use mathlib.Core.List.{List, [], _∷_, _++_}
 use mathlib.Core.Option.{some}
-use mathlib.Core.Bool.{true, _&&_}
+use mathlib.Core.Bool.{Bool, true, false, cond, _&&_}
 use borrow.Author.Tests.{eqb-true, ltb-true}
-use lib.ListN.{length, take, drop}
+use lib.ListN.{length, take, drop, replicate}
 use lib.Dec.{eqb, ltb}
 use Rattle.octets.specs.Octets.{le, be}
 use Rattle.scheme.specs.Lists.{pieces}
 use Rattle.scheme.specs.Primitives.{Primitives}
 use Rattle.scheme.specs.Records.{Card, cardBytes, readCard}
-use Rattle.scheme.specs.Tokens.{Change, added, addedFrom, drawKey, hashKey, workedDigest}
+use Rattle.scheme.specs.Tokens.{Change, replaced, added, addedFrom, drawKey, hashKey, workedDigest}
 use Rattle.scheme.specs.Table.{there, value}
-use Rattle.scheme.specs.Calls.{Edit, append, load, loaded, workOf, blocksAfter, changedCard, changeCode, changeCard, changeTable, loadCode, loadCard, loadTable}
+use Rattle.scheme.specs.Batches.{Item, itemsOf, itemBlock, batchWork}
+use Rattle.scheme.specs.Calls.{Edit, update, delete, append, load, batch, loaded, workOf, blocksAfter, changedCard, changeCode, changeCard, changeTable}
+use Rattle.scheme.specs.Calls.{loadCode, loadCard, loadTable, batchCode, batchCard, batchTable}
 use Rattle.scheme.specs.Book.{answer, change, Lent, Ran, run}
 use Rattle.scheme.proofs.TokenLaws.{worked-append}
 use Rattle.scheme.proofs.LadderLaws.{both}
 use Rattle.scheme.proofs.RecordLaws.{by-eight}
 use Rattle.scheme.proofs.TableLaws.{pieces-length}
 use Rattle.scheme.proofs.CallLaws.{change-has}
+use Rattle.scheme.proofs.BatchLaws.{batch-has}
 use Rattle.scheme.proofs.ResealLaws.{spent-kept, table-long, made, inside, was-inside, left, card-changed, card-written}
 
 -- changes as calls, each lent the same master
@@ -181,8 +185,9 @@ module _ (P : Primitives) (master : List ℕ) where
         left P master card table one ok i x h l (was-inside P master card table one ok i h l)
         ∙ ap (λ (work : List (ℕ × Change)). some (made P master c work i x)) same
 
-    pub alike : Alike P master card table (ran (e ∷ es) card table) (changeCard P master card table one) (changeTable P master card table one) (length (e ∷ es))
-    alike =
+    -- what they leave is the same
+    like : Alike P master card table (ran (e ∷ es) card table) (changeCard P master card table one) (changeTable P master card table one) (length (e ∷ es))
+    like =
         let c = readCard card in
         let has = change-has P master card table one ok in
         let n = (cardAfter c (e ∷ es)) .n in
@@ -200,6 +205,13 @@ module _ (P : Primitives) (master : List ℕ) where
           oneStep = rw (card-changed P master card table one ok) (unfold changedCard in refl);
           manySteps = rw (last-card (e ∷ es) card table a, stepped (e ∷ es) c) (unfold atCounter in refl);
         }
+
+  pub alike : (card table : List ℕ) (one : Edit) (es : List Edit) → 1 ≤ length es → changeCode P master card table one ≡ 0
+      → AllAccepted ((ran es card table) .numbers) → workOf (readCard card) one ≡ workSingly (readCard card) es
+      → blocksAfter (readCard card) one ≡ (cardAfter (readCard card) es) .n
+      → Alike P master card table (ran es card table) (changeCard P master card table one) (changeTable P master card table one) (length es)
+  alike card table one [] h ok a same count = absurd (omega arith)
+  alike card table one (e ∷ es) h ok a same count = like card table one e es ok a same count
 
 -- blocks appended one by one
 abbrev pub appends : List (List ℕ) → List Edit
@@ -230,23 +242,80 @@ module _ (P : Primitives) (master card table blocks : List ℕ) where
   many = pieces-length ((readCard card) .B) (length blocks / (readCard card) .B) blocks
 
   -- an accepted load has a block at least
-  not-empty : loadCode P master card table blocks ≡ 0 → length news ≡ 0 → ⊥
-  not-empty ok e =
-      let B = (readCard card) .B in
-      let q = both (ltb 0 (length blocks)) (eqb (length blocks % B) 0) (change-has P master card table (load blocks) ok .placed .0) in
-      let none : length blocks / B * B ≡ 0 = ap (λ (k : ℕ). k * B) (sym many ∙ e) ∙ zero-mul B in
-      omega (arith, ltb-true 0 (length blocks) (q .0), eqb-true (length blocks % B) 0 (q .1), div-add-mod' (length blocks) B)
+  not-empty : loadCode P master card table blocks ≡ 0 → 1 ≤ length news
+  not-empty ok = go (length news) refl
+    where
+      B : ℕ
+      B = (readCard card) .B
+
+      go : (k : ℕ) → length news ≡ k → 1 ≤ k
+      go zero e =
+          let q = both (ltb 0 (length blocks)) (eqb (length blocks % B) 0) (change-has P master card table (load blocks) ok .placed 12) in
+          let none : length blocks / B * B ≡ 0 = ap (λ (k : ℕ). k * B) (sym many ∙ e) ∙ zero-mul B in
+          omega (arith, ltb-true 0 (length blocks) (q .0), eqb-true (length blocks % B) 0 (q .1), div-add-mod' (length blocks) B)
+      go (suc k) e = omega arith
 
   -- "the table's tokens after it are those after the same blocks appended one by one; only counter and sealing differ", where all are accepted
   pub load-singly : loadCode P master card table blocks ≡ 0 → AllAccepted ((run P (calls master (appends news)) card table) .numbers)
       → Alike P master card table (run P (calls master (appends news)) card table) (loadCard P master card table blocks) (loadTable P master card table blocks) (length news)
-  load-singly ok a = go news refl a
-    where
-      go : (xs : List (List ℕ)) → news ≡ xs → AllAccepted ((run P (calls master (appends xs)) card table) .numbers)
-          → Alike P master card table (run P (calls master (appends xs)) card table) (loadCard P master card table blocks) (loadTable P master card table blocks) (length xs)
-      go [] e b = absurd (not-empty ok (ap length e))
-      go (x ∷ xs) e b =
-          rw (← append-many (x ∷ xs))
-          (alike P master card table (load blocks) (append x) (appends xs) ok b
-          (ap (addedFrom ((readCard card) .n + 1)) e ∙ append-work (readCard card) (x ∷ xs))
-          (ap (λ (k : ℕ). (readCard card) .n + k) (sym many ∙ ap length e) ∙ append-count (readCard card) (x ∷ xs)))
+  load-singly ok a =
+      let c = readCard card in
+      let n = append-many news in
+      rw (← n)
+      (alike P master card table (load blocks) (appends news) (omega (arith, not-empty ok)) ok a (append-work c news)
+      (ap (λ (k : ℕ). c .n + k) (sym many) ∙ append-count c news))
+
+-- an item as a change of its own: "1 update, 2 delete"
+abbrev pub itemEdit : Item → Edit
+itemEdit x = cond (eqb (x .kind) 1) (update (x .number) (x .old) (x .new)) (delete (x .number) (x .old))
+
+-- "the same changes made singly"
+abbrev pub corrections : List Item → List Edit
+corrections [] = []
+corrections (x ∷ xs) = itemEdit x ∷ corrections xs
+
+item-work : (c : Card) (x : Item) → workOf c (itemEdit x) ≡ (x .number, replaced (x .old) (itemBlock (c .B) x)) ∷ []
+unfolding itemBlock
+item-work c x = go (eqb (x .kind) 1)
+  where
+    go : (k : Bool) → workOf c (cond k (update (x .number) (x .old) (x .new)) (delete (x .number) (x .old)))
+        ≡ (x .number, replaced (x .old) (cond k (x .new) (replicate (c .B) 0))) ∷ []
+    go true = refl
+    go false = refl
+
+item-count : (c : Card) (x : Item) → blocksAfter c (itemEdit x) ≡ c .n
+item-count c x = go (eqb (x .kind) 1)
+  where
+    go : (k : Bool) → blocksAfter c (cond k (update (x .number) (x .old) (x .new)) (delete (x .number) (x .old))) ≡ c .n
+    go true = refl
+    go false = refl
+
+corrected-work : (c : Card) (xs : List Item) → batchWork (c .B) xs ≡ workSingly c (corrections xs)
+unfolding batchWork workSingly changedCard
+corrected-work c [] = refl
+corrected-work c (x ∷ xs) =
+    rw (item-work c x, item-count c x)
+    (ap (λ (work : List (ℕ × Change)). (x .number, replaced (x .old) (itemBlock (c .B) x)) ∷ work) (corrected-work (changedCard c (c .n)) xs))
+
+corrected-count : (c : Card) (xs : List Item) → c .n ≡ (cardAfter c (corrections xs)) .n
+unfolding cardAfter changedCard
+corrected-count c [] = refl
+corrected-count c (x ∷ xs) =
+    corrected-count (changedCard c (c .n)) xs ∙ ap (λ (n : ℕ). (cardAfter (changedCard c n) (corrections xs)) .n) (sym (item-count c x))
+
+corrected-many : (xs : List Item) → length (corrections xs) ≡ length xs
+corrected-many [] = refl
+corrected-many (x ∷ xs) = ap suc (corrected-many xs)
+
+-- "The tokens inside equal those after the same changes made singly, where all those are accepted; only the counter and sealing differ"
+pub batch-singly : (P : Primitives) (master card table items : List ℕ) → batchCode P master card table items ≡ 0
+    → AllAccepted ((run P (calls master (corrections (itemsOf (readCard card) items))) card table) .numbers)
+    → Alike P master card table (run P (calls master (corrections (itemsOf (readCard card) items))) card table)
+    (batchCard P master card table items) (batchTable P master card table items) (length (itemsOf (readCard card) items))
+batch-singly P master card table items ok a =
+    let c = readCard card in
+    let xs = itemsOf c items in
+    let n = corrected-many xs in
+    let fit = batch-has c items (change-has P master card table (batch items) ok .placed 14) in
+    rw (← n)
+    (alike P master card table (batch items) (corrections xs) (omega (arith, fit .some)) ok a (corrected-work c xs) (corrected-count c xs))

@@ -1,10 +1,11 @@
 -- Lists of calls computed over the stand-ins. Assumes nothing.
 --   week          a list of calls: its numbers, and the card and the table it leaves; week-honest: the list theorem speaks of it
 --   month         a load, and its blocks appended one by one, after a set-up with fewer blocks than rows
+--   morning       a batch, and its items made singly
 use native.Mathlib.Omega.{arith}
 use Prim.Native.Nat.{ℕ}
 use mathlib.Core.Path.{_≡_, refl}
-use mathlib.Core.List.{List, [], _∷_}
+use mathlib.Core.List.{List, [], _∷_, _++_}
 use lib.ListN.{length, replicate}
 use Rattle.octets.specs.Octets.{le, be, ofLe, ofBe, put, same, xors}
 use Rattle.scheme.specs.Ladder.{first}
@@ -14,26 +15,28 @@ use Rattle.scheme.specs.Tokens.{rowOf, columnOf, blockIn, columnsOf, blo
 use Rattle.scheme.specs.Tokens.{columnHash, drawnRow, positionOf, rowDigest, digest, token, addedFrom, mixed, changedDigest, workedDigest}
 use Rattle.scheme.specs.Table.{sealedRecord, bodyIn, tokenIn, firstBad, resealedRecord, reseal}
 use Rattle.scheme.specs.Judging.{causeNumber, verdictOf, cause, verdict}
-use Rattle.scheme.specs.Calls.{update, delete, append, load, loaded, changedCard, turnedCard, setUpCode, setUpCard, setUpTable, unusedBad, changeCode}
+use Rattle.scheme.specs.Batches.{itemSize, readItem, itemsFrom, itemsOf, kindsFit, risingFrom, rising, batchFits, numbersFit, itemBlock, batchWork}
+use Rattle.scheme.specs.Calls.{update, delete, append, load, batch, loaded, changedCard, turnedCard, setUpCode, setUpCard, setUpTable, unusedBad, changeCode}
 use Rattle.scheme.specs.Calls.{changeCard, changeTable, drawCode, drawCard, judgeFault, judgeCode, judgeCard}
 use Rattle.scheme.specs.Book.{Call, change, draw, judge, Lent, Ran, run, started, bookCard, withBlocks, withTurn, freshToken, freshRecord}
-use Rattle.scheme.specs.Book.{bookTable, bookFault, bookAfter, Honest}
+use Rattle.scheme.specs.Book.{bookTable, bookFault, bookAfter, Honest, corrected}
 use Rattle.scheme.proofs.SinglyTheorem.{calls}
-use Rattle.scheme.proofs.Computed.{standIn, key, id, blank}
+use Rattle.scheme.proofs.Computed.{standIn, key, id, item, blank}
 
 -- lent the key
 abbrev lent : Call → Lent
 lent x = record { master = key; call = x }
 
 -- after a set-up with B 1, d 2, r 1, t 1: judge with nothing open; update block 0; update by a block of two bytes; update with a master of 31 bytes;
--- update, append and delete; delete block 4; load nothing; load two blocks; draw to a buffer of 90 bytes; draw; draw and append while a token is open; judge a reply of
--- no bytes; "t 1, one draw judged, draw"; append with no token left
+-- update, append and delete; delete block 4; load nothing; load two blocks; a batch of no bytes; update block 2 and delete block 4 in a batch;
+-- draw to a buffer of 90 bytes; draw; draw and append while a token is open; judge a reply of no bytes; "t 1, one draw judged, draw"; append with no token left
 abbrev weekCalls : List Lent
 weekCalls =
     lent (judge []) ∷ lent (change (update 0 (5 ∷ []) (9 ∷ []))) ∷ lent (change (update 1 (5 ∷ []) (9 ∷ 9 ∷ [])))
     ∷ record { master = replicate 31 7; call = change (update 1 (5 ∷ []) (9 ∷ [])) }
     ∷ lent (change (update 1 (5 ∷ []) (9 ∷ []))) ∷ lent (change (append (8 ∷ []))) ∷ lent (change (delete 3 (8 ∷ []))) ∷ lent (change (delete 4 (8 ∷ [])))
     ∷ lent (change (load [])) ∷ lent (change (load (3 ∷ 4 ∷ [])))
+    ∷ lent (change (batch [])) ∷ lent (change (batch (item 1 2 6 7 ++ item 2 4 3 9)))
     ∷ lent (draw (replicate 90 0)) ∷ lent (draw blank) ∷ lent (draw blank) ∷ lent (change (append (8 ∷ []))) ∷ lent (judge []) ∷ lent (draw blank)
     ∷ lent (change (append (3 ∷ []))) ∷ []
 
@@ -42,15 +45,15 @@ pub week : _≡_ {A = Ran}
     (setUpCard standIn key id 1 2 1 1 2 (5 ∷ 6 ∷ []) (replicate 43 0) (replicate 63 0))
     (setUpTable standIn key id 1 2 1 1 2 (5 ∷ 6 ∷ []) (replicate 43 0) (replicate 63 0)))
     (record {
-      numbers = 9 ∷ 4 ∷ 1 ∷ 1 ∷ 0 ∷ 0 ∷ 0 ∷ 4 ∷ 12 ∷ 0 ∷ 1 ∷ 0 ∷ 8 ∷ 8 ∷ 11 ∷ 6 ∷ 0 ∷ [];
+      numbers = 9 ∷ 4 ∷ 1 ∷ 1 ∷ 0 ∷ 0 ∷ 0 ∷ 4 ∷ 12 ∷ 0 ∷ 14 ∷ 0 ∷ 1 ∷ 0 ∷ 8 ∷ 8 ∷ 11 ∷ 6 ∷ 0 ∷ [];
       card =
-          0 ∷ 41 ∷ 1 ∷ 1 ∷ 2 ∷ 3 ∷ 4 ∷ 5 ∷ 6 ∷ 7 ∷ 8 ∷ 0 ∷ 1 ∷ 0 ∷ 0 ∷ 0 ∷ 2 ∷ 0 ∷ 1 ∷ 0 ∷ 0 ∷ 0 ∷ 1 ∷ 0 ∷ 0 ∷ 0 ∷ 6 ∷ 0 ∷ 0 ∷ 0 ∷ 0 ∷ 0 ∷ 0 ∷ 0 ∷ 5
+          0 ∷ 41 ∷ 1 ∷ 1 ∷ 2 ∷ 3 ∷ 4 ∷ 5 ∷ 6 ∷ 7 ∷ 8 ∷ 0 ∷ 1 ∷ 0 ∷ 0 ∷ 0 ∷ 2 ∷ 0 ∷ 1 ∷ 0 ∷ 0 ∷ 0 ∷ 1 ∷ 0 ∷ 0 ∷ 0 ∷ 6 ∷ 0 ∷ 0 ∷ 0 ∷ 0 ∷ 0 ∷ 0 ∷ 0 ∷ 6
           ∷ 0 ∷ 0 ∷ 0 ∷ 2 ∷ 0 ∷ 0 ∷ 0 ∷ 0 ∷ [];
-      table = sealedRecord standIn (keyK standIn key id) 4 1 (token standIn key id 2 1 1 ((9 ∷ []) ∷ (6 ∷ []) ∷ (0 ∷ []) ∷ (3 ∷ []) ∷ (4 ∷ []) ∷ []));
+      table = sealedRecord standIn (keyK standIn key id) 5 1 (token standIn key id 2 1 1 ((9 ∷ []) ∷ (7 ∷ []) ∷ (0 ∷ []) ∷ (0 ∷ []) ∷ (4 ∷ []) ∷ []));
     })
 unfolding run be le ofBe ofLe put same xors first joined pieces xorBelow recordsFrom cardBytes readCard shapeFits tokenFits blocksFit cardFits headFits clearBytes
     nonceBytes recordAt rowOf columnOf blockIn columnsOf blockAt indexOf keyW keyZ keyK drawKey hashKey blockHash columnHash drawnRow positionOf rowDigest digest token
-    addedFrom loaded mixed changedDigest workedDigest sealedRecord bodyIn tokenIn firstBad resealedRecord reseal causeNumber verdictOf cause verdict changedCard
+    addedFrom loaded itemSize readItem itemsFrom itemsOf kindsFit risingFrom rising batchFits numbersFit itemBlock batchWork mixed changedDigest workedDigest sealedRecord bodyIn tokenIn firstBad resealedRecord reseal causeNumber verdictOf cause verdict changedCard
     turnedCard setUpCode setUpCard setUpTable unusedBad changeCode changeCard changeTable drawCode drawCard judgeFault judgeCode judgeCard
 week = refl
 
@@ -58,9 +61,9 @@ week = refl
 pub week-honest : (setUpCode standIn key id 1 2 1 1 2 (5 ∷ 6 ∷ []) (replicate 43 0) (replicate 63 0) ≡ 0) × Honest standIn weekCalls (started key id 1 2 1 1 2 (5 ∷ 6 ∷ []))
 unfolding be le ofBe ofLe put same xors first joined pieces xorBelow recordsFrom cardBytes readCard shapeFits tokenFits blocksFit cardFits headFits clearBytes nonceBytes
     recordAt rowOf columnOf blockIn columnsOf blockAt indexOf keyW keyZ keyK drawKey hashKey blockHash columnHash drawnRow positionOf rowDigest digest token addedFrom
-    loaded mixed changedDigest workedDigest sealedRecord bodyIn tokenIn firstBad resealedRecord reseal causeNumber verdictOf cause verdict changedCard turnedCard
+    loaded itemSize readItem itemsFrom itemsOf kindsFit risingFrom rising batchFits numbersFit itemBlock batchWork mixed changedDigest workedDigest sealedRecord bodyIn tokenIn firstBad resealedRecord reseal causeNumber verdictOf cause verdict changedCard turnedCard
     setUpCode setUpCard setUpTable unusedBad changeCode changeCard changeTable drawCode drawCard judgeFault judgeCode judgeCard started bookCard withBlocks withTurn
-    freshToken freshRecord bookTable bookFault bookAfter
+    freshToken freshRecord bookTable bookFault bookAfter corrected
 week-honest =
     let own : length key ≡ 32 → key ≡ key = λ l. refl in (
       refl,
@@ -88,7 +91,19 @@ week-honest =
                     (
                       own,
                       λ e. absurd (omega arith),
-                      (own, λ e. tt, (own, λ e. tt, (own, λ e. tt, (own, λ e. tt, (own, λ e. tt, (own, λ e. tt, (own, λ e. tt, (own, λ e. tt, (own, λ e. tt, tt))))))))),
+                      (
+                        own,
+                        λ e. tt,
+                        (
+                          own,
+                          λ e. tt,
+                          (
+                            own,
+                            λ e. tt,
+                            (own, λ e. (refl, (refl, tt)), (own, λ e. tt, (own, λ e. tt, (own, λ e. tt, (own, λ e. tt, (own, λ e. tt, (own, λ e. tt, (own, λ e. tt, tt)))))))),
+                          ),
+                        ),
+                      ),
                     ),
                   ),
                 ),
@@ -106,20 +121,33 @@ monthOf xs =
     (setUpCard standIn key id 1 5 4 1 1 (5 ∷ []) (replicate 43 0) (replicate 63 0))
     (setUpTable standIn key id 1 5 4 1 1 (5 ∷ []) (replicate 43 0) (replicate 63 0))
 
--- the card and the table of that file with six blocks, at a counter
-abbrev sixAt : List ℕ → ℕ → Ran
-sixAt numbers ctr = record {
+-- the card and the table of that file with blocks at a counter
+abbrev after : List ℕ → ℕ → List (List ℕ) → Ran
+after numbers ctr blocks = record {
   numbers = numbers;
-  card = cardBytes (record { id = id; B = 1; d = 5; r = 4; t = 1; n = 6; ctr = ctr; next = 1; open′ = 0 });
-  table =
-      sealedRecord standIn (keyK standIn key id) ctr 1
-      (token standIn key id 5 4 1 ((5 ∷ []) ∷ (6 ∷ []) ∷ (7 ∷ []) ∷ (8 ∷ []) ∷ (9 ∷ []) ∷ (3 ∷ []) ∷ []));
+  card = cardBytes (record { id = id; B = 1; d = 5; r = 4; t = 1; n = length blocks; ctr = ctr; next = 1; open′ = 0 });
+  table = sealedRecord standIn (keyK standIn key id) ctr 1 (token standIn key id 5 4 1 blocks);
 }
 
-pub month : (monthOf (lent (change (load (6 ∷ 7 ∷ 8 ∷ 9 ∷ 3 ∷ []))) ∷ []) ≡ sixAt (0 ∷ []) 1)
-    × (monthOf (calls key (append (6 ∷ []) ∷ append (7 ∷ []) ∷ append (8 ∷ []) ∷ append (9 ∷ []) ∷ append (3 ∷ []) ∷ [])) ≡ sixAt (0 ∷ 0 ∷ 0 ∷ 0 ∷ 0 ∷ []) 5)
+abbrev six : List (List ℕ)
+six = (5 ∷ []) ∷ (6 ∷ []) ∷ (7 ∷ []) ∷ (8 ∷ []) ∷ (9 ∷ []) ∷ (3 ∷ []) ∷ []
+
+pub month : (monthOf (calls key (load (6 ∷ 7 ∷ 8 ∷ 9 ∷ 3 ∷ []) ∷ [])) ≡ after (0 ∷ []) 1 six)
+    × (monthOf (calls key (append (6 ∷ []) ∷ append (7 ∷ []) ∷ append (8 ∷ []) ∷ append (9 ∷ []) ∷ append (3 ∷ []) ∷ [])) ≡ after (0 ∷ 0 ∷ 0 ∷ 0 ∷ 0 ∷ []) 5 six)
 unfolding run be le ofBe ofLe put same xors first joined pieces xorBelow recordsFrom cardBytes readCard shapeFits tokenFits blocksFit cardFits headFits clearBytes
     nonceBytes recordAt rowOf columnOf blockIn columnsOf blockAt indexOf keyW keyZ keyK drawKey hashKey blockHash columnHash drawnRow positionOf rowDigest digest token
-    addedFrom loaded mixed changedDigest workedDigest sealedRecord bodyIn tokenIn firstBad resealedRecord reseal causeNumber verdictOf cause verdict changedCard
-    turnedCard setUpCode setUpCard setUpTable unusedBad changeCode changeCard changeTable drawCode drawCard judgeFault judgeCode judgeCard
+    addedFrom loaded itemSize readItem itemsFrom itemsOf kindsFit risingFrom rising batchFits numbersFit itemBlock batchWork mixed changedDigest workedDigest sealedRecord
+    bodyIn tokenIn firstBad resealedRecord reseal changedCard setUpCode setUpCard setUpTable unusedBad changeCode changeCard changeTable
 month = (refl, refl)
+
+abbrev mended : List (List ℕ)
+mended = (5 ∷ []) ∷ (4 ∷ []) ∷ (7 ∷ []) ∷ (8 ∷ []) ∷ (0 ∷ []) ∷ (1 ∷ []) ∷ []
+
+pub morning : (monthOf (calls key (load (6 ∷ 7 ∷ 8 ∷ 9 ∷ 3 ∷ []) ∷ batch (item 1 2 6 4 ++ item 2 5 9 8 ++ item 1 6 3 1) ∷ [])) ≡ after (0 ∷ 0 ∷ []) 2 mended)
+    × (monthOf (calls key (load (6 ∷ 7 ∷ 8 ∷ 9 ∷ 3 ∷ []) ∷ update 2 (6 ∷ []) (4 ∷ []) ∷ delete 5 (9 ∷ []) ∷ update 6 (3 ∷ []) (1 ∷ []) ∷ []))
+    ≡ after (0 ∷ 0 ∷ 0 ∷ 0 ∷ []) 4 mended)
+unfolding run be le ofBe ofLe put same xors first joined pieces xorBelow recordsFrom cardBytes readCard shapeFits tokenFits blocksFit cardFits headFits clearBytes
+    nonceBytes recordAt rowOf columnOf blockIn columnsOf blockAt indexOf keyW keyZ keyK drawKey hashKey blockHash columnHash drawnRow positionOf rowDigest digest token
+    addedFrom loaded itemSize readItem itemsFrom itemsOf kindsFit risingFrom rising batchFits numbersFit itemBlock batchWork mixed changedDigest workedDigest sealedRecord
+    bodyIn tokenIn firstBad resealedRecord reseal changedCard setUpCode setUpCard setUpTable unusedBad changeCode changeCard changeTable
+morning = (refl, refl)

@@ -1,8 +1,10 @@
 -- What a sum stands for after one more message, and when all are hashed. Assumes nothing.
 --   hashes-none, hashes-turn, hashes-done   the loop over the hashes of messages
+--   joined-same, inside-own                 a lane without a message takes the first one's place
 --   held-all                                a sum that no message waits for
 --   length-held                             32 bytes
 --   sound-none, sound-waits, sound-all      what is left out lies in the buffer: at the start, with one more message, with all hashed
+--   held-with, sound-with                   a hash that was made elsewhere
 --   one-waits, all-hashed                   one more message waits; the last place is taken, and all are hashed
 use Prim.Native.Nat.{ℕ, _+_, _*_, _-_, _≤_, _<_}
 use native.Mathlib.Omega.{arith}
@@ -11,11 +13,14 @@ use native.Mathlib.Decide.{ℕ-discrete}
 use mathlib.Core.Path.{_≡_, refl, sym, ap, ap₂, subst, _∙_}
 use mathlib.Core.Logic.{_≢_}
 use mathlib.Core.List.{List, _++_}
+use mathlib.Core.Bool.{Bool, true, false}
+use borrow.Author.Tests.{ltb-true, ltb-false}
+use lib.Dec.{ltb}
 use lib.ListN.{length, getD, set, take, drop, replicate, getD-replicate, length-drop, length-set}
 use lib.Seq.{take-append-le, drop-append-le, length-take-le, getD-set-same, getD-set-other}
 use Rattle.octets.specs.Octets.{xors, part, put}
 use Rattle.octets.proofs.PartLaws.{length-part, length-put, part-part, part-put, put-lent}
-use Rattle.octets.proofs.XorLaws.{xors-assoc, xors-zeros, length-xors}
+use Rattle.octets.proofs.XorLaws.{xors-assoc, xors-swap, xors-zeros, length-xors}
 use Rattle.sha256.specs.Sha256.{padding, digest, hashed, sha256}
 use Rattle.sha256.proofs.StreamLaws.{length-hashed}
 use Rattle.sha256_lanes.specs.Rounds.{Inside}
@@ -51,6 +56,19 @@ module _ (p : List ℕ) (n : ℕ) (far : List ℕ) (gap : ℕ) where
       let q : k ≡ m = omega arith in
       e ∙ ap (λ (i : ℕ). xors x (hashes p n far at gap i)) q
 
+-- places that are the messages' own
+pub joined-same : (p : List ℕ) (n : ℕ) (far own at : List ℕ) (gap k : ℕ) → getD own k 0 ≡ getD at k 0 → joined p n far own gap k ≡ joined p n far at gap k
+unfolding joined
+joined-same p n far own at gap k e = ap (λ (a : ℕ). take 64 (part (k * n) n p) ++ part a gap far ++ drop 64 (part (k * n) n p)) e
+
+pub inside-own : (far own at : List ℕ) (gap fill lanes : ℕ) → lanes ≤ places → ((i : ℕ) → i < fill → getD own i 0 ≡ getD at i 0)
+    → ((i : ℕ) → fill ≤ i → i < places → getD own i 0 ≡ getD at 0 0) → Inside far at gap places → Inside far own gap lanes
+inside-own far own at gap fill lanes few below rest all = record { fits = λ i h. go i h (ltb i fill) refl }
+  where
+    go : (i : ℕ) → i < lanes → (b : Bool) → ltb i fill ≡ b → getD own i 0 + gap ≤ length far
+    go i h true e = omega (arith, below i (ltb-true i fill e), all .fits i (omega arith))
+    go i h false e = omega (arith, rest i (ltb-false i fill e) (omega arith), all .fits 0 (omega arith))
+
 -- a sum that no message waits for
 module _ (p : List ℕ) (f : Form) (far : List ℕ) where
   pub held-all : (s : Sum) (at : List ℕ) → length (s .x) ≡ 32 → s .fill ≡ 0 → s .x ≡ held s f far at p
@@ -63,6 +81,15 @@ module _ (p : List ℕ) (f : Form) (far : List ℕ) where
       let each : ℕ → List ℕ = one p (f .long) far at (f .gap) in
       let long : length (xorBelow (s .fill) each) ≡ 32 = length-xor-below each (λ i. length-hashed (joined p (f .long) far at (f .gap) i)) (s .fill) in
       length-xors (s .x) (xorBelow (s .fill) each) (omega arith) ∙ l
+
+  pub held-with : (s : Sum) (at y h : List ℕ) → y ≡ xors (s .x) h → held (record { x = y; fill = s .fill }) f far at p ≡ xors (held s f far at p) h
+  unfolding held
+  held-with s at y h e =
+      let z : List ℕ = hashes p (f .long) far at (f .gap) (s .fill) in
+      ap (λ (x : List ℕ). xors x z) e ∙ xors-swap (s .x) h z
+
+pub sound-with : (s : Sum) (f : Form) (y far at : List ℕ) → Sound s f far at → Sound (record { x = y; fill = s .fill }) f far at
+sound-with s f y far at sound = record { known = sound .known; free = sound .free; some = sound .some; inside = sound .inside }
 
 -- what is left out
 pub sound-none : (s : Sum) (f : Form) (far : List ℕ) → s .fill ≡ 0 → Sound s f far (replicate places 0)

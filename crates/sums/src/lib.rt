@@ -3,12 +3,13 @@
 // behind the last whole block of 64: those between are hashed where they lie.
 // Every function equals a definition of specs/ over SHA-256. Nothing is assumed.
 ghost use mathlib.Core.Path.{_≡_};
-ghost use mathlib.Core.List.{_++_};
-ghost use Prim.Native.Nat.{_+_, _≤_};
-ghost use lib.ListN.{length};
+ghost use mathlib.Core.List.{List, _++_};
+ghost use Prim.Native.Nat.{ℕ, _+_, _≤_, _<_};
+ghost use lib.ListN.{length, getD};
 ghost use Rattle.octets.specs.Octets.{xors};
 ghost use Rattle.sha256.specs.Sha256 as S;
 ghost use Rattle.sha256_lanes.specs.Rounds.{Inside};
+ghost use Rattle.sums.specs.declared.Form.{Form};
 ghost use Rattle.sums.specs.Waiting.{Shaped, Cut, Sound, places, said, short, hashes, held};
 
 // How many messages are hashed side by side.
@@ -74,6 +75,21 @@ fn lay(message: &mut [u8], head: &[u8], far: &[u8], a: usize, size: usize, f: Fo
     octets::copy(message, h + size - f.gap, pad);
 }
 
+// Where what is left out of each of the first `fill` messages lies. A lane without a message has the first one's, so that nothing is read of the lent
+// buffer but the blocks of messages.
+fn places_of(at: &[usize; 16], fill: usize) -> [usize; 16]
+    requires { ⌜ (1 ≤ fill) × (fill ≤ places) ⌝ }
+    ensures { λ r. ⌜ ((i : ℕ) → i < fill → getD r i 0 ≡ getD (now (at .entry)) i 0) × ((i : ℕ) → fill ≤ i → i < places → getD r i 0 ≡ getD (now (at .entry)) 0 0) ⌝ }
+{
+    let mut own = [at[0]; 16];
+    let mut k: usize = 0;
+    while k < fill {
+        own[k] = at[k];
+        k += 1;
+    }
+    own
+}
+
 // The digest x with the hashes of the first `fill` messages, made at once: in as many lanes, or up to three more.
 fn with_hashes(
     x: [u8; 32],
@@ -83,13 +99,14 @@ fn with_hashes(
     p: &[u8],
     fill: usize,
 ) -> [u8; 32]
-    requires { ⌜ (fill ≤ places) × Shaped f × (length (now p) ≡ 3072) × Inside (now far) (now at) (f .gap) places ⌝ }
+    requires { ⌜ (1 ≤ fill) × (fill ≤ places) × Shaped f × (length (now p) ≡ 3072) × Inside (now far) (now at) (f .gap) places ⌝ }
     ensures { λ r. ⌜ r ≡ xors x (hashes (now (p .entry)) (f .long) (now (far .entry)) (now (at .entry)) (f .gap) fill) ⌝ }
 {
     let lanes = (fill + 3) / 4 * 4;
     let long = f.long;
     let gap = f.gap;
-    let s = sha256_many::hash_each(p, long, far, at, gap, lanes);
+    let own = places_of(at, fill);
+    let s = sha256_many::hash_each(p, long, far, &own, gap, lanes);
     let mut y = x;
     let mut k: usize = 0;
     while k < fill {
@@ -128,6 +145,15 @@ pub fn add(
     }
     let y = with_hashes(x, f, far, at, p, PLACES);
     Sum { x: y, fill: 0 }
+}
+
+// The sum with a hash that was made elsewhere.
+pub fn with_hash(s: Sum, h: [u8; 32]) -> Sum
+    ensures { λ r. ⌜ ((f : Form) (far at p : List ℕ) → (Sound s f far at → Sound r f far at) × (held r f far at p ≡ xors (held s f far at p) h)) ⌝ }
+{
+    let x = s.x;
+    let y = octets::xor32(x, h);
+    Sum { x: y, fill: s.fill }
 }
 
 // The digest with the messages that wait.

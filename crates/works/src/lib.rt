@@ -2,11 +2,11 @@
 // hashes of the old and the new content. Every function equals a definition of specs/ or of the scheme's Tokens at the standard primitives.
 // Nothing is assumed.
 // A block change that comes alone is a walk and the lent running hash, and needs no room. Where no fewer blocks are added than a token draws, the
-// token goes through its positions, as in set-up. Where they are fewer, their walks go side by side over one table of the round function, where that
-// takes fewer blocks of ChaCha20, and the drawn blocks are hashed as sums takes them.
+// token goes through its positions, as in set-up. Fewer of these, and the items of a batch, are walked back side by side over one table of the round
+// function, where that takes fewer blocks of ChaCha20, and what is drawn is hashed as sums takes it.
 ghost use mathlib.Core.Path.{_≡_};
-ghost use mathlib.Core.Logic.{_≢_};
 ghost use mathlib.Core.List.{List};
+ghost use mathlib.Core.Bool.{true, false};
 ghost use Prim.Native.Nat.{ℕ, _+_, _-_, _^_, _≤_, _<_};
 ghost use lib.ListN.{length, getD};
 ghost use Rattle.chacha20.specs.ChaCha20.{keyWords};
@@ -16,36 +16,17 @@ ghost use Rattle.scheme.specs.Tokens as T;
 ghost use Rattle.standard.specs.Standard.{standard};
 ghost use Rattle.tokens.specs.Keyed.{tokenKey};
 ghost use Rattle.sums.specs.Waiting.{held, Sound};
-ghost use Rattle.works.specs.Items.{itemsOf, after, Lent, Several, Room};
-ghost use Rattle.works.specs.Runs.{Fits, Made, Placed};
-
-// The block changes of a call, and the shape of its file: `count` blocks of `size` bytes from number `first` on, added where `fresh` is true, else
-// replaced. Two buffers go with it, which have the old contents (not read where `fresh` is true) and the new ones, block after block.
-pub struct Work {
-    pub rows: u64,
-    pub positions: u64,
-    pub size: u64,
-    pub first: u64,
-    pub count: u64,
-    pub fresh: bool,
-}
-
-// The number of the block that change e is of.
-fn number_of(work: Work, e: u64) -> counts::Block
-    requires { ⌜ work .first + e < 2 ^ 64 ⌝ }
-    ensures { λ r. ⌜ r .0 ≡ work .first + e ⌝ }
-{
-    counts::Block(work.first + e)
-}
+ghost use Rattle.items.specs.Items.{numberAt, itemsOf, alone, Lent, Several, Fits};
+ghost use Rattle.works.specs.Runs.{after, Room, Made, Placed};
 
 // Writes where n walks begin: the rows of change `from` and of those behind it, from 0.
-fn lay_rows(work: Work, from: u64, n: usize, starts: &mut [u64])
-    requires { ⌜ (1 ≤ work .rows) × (1 ≤ work .first) × (work .first + from + n < 2 ^ 63) × (n ≤ length (now starts)) ⌝ }
-    ensures { λ _. ⌜ ((e : ℕ) → e < n → getD (now (starts .exit)) e 0 ≡ T.rowOf (work .rows) (work .first + (from + e)) - 1) ⌝ }
+fn lay_rows(work: items::Work, new: &[u8], from: u64, n: usize, starts: &mut [u64])
+    requires { ⌜ Several work (now new) × (from + n ≤ work .count) × (n ≤ length (now starts)) ⌝ }
+    ensures { λ _. ⌜ ((e : ℕ) → e < n → getD (now (starts .exit)) e 0 ≡ T.rowOf (work .rows) (numberAt work (now (new .entry)) (from + e)) - 1) ⌝ }
 {
     let mut e: usize = 0;
     while e < n {
-        let m = number_of(work, from + e as u64);
+        let m = items::number_of(work, new, from + e as u64);
         let row = tokens::row_of(work.rows, m);
         starts[e] = row.0 - 1;
         e += 1;
@@ -76,7 +57,7 @@ fn add_item(
     run: Run,
     z: hmac::Key,
     i: counts::Token,
-    work: Work,
+    work: items::Work,
     e: u64,
     seat: u64,
     f: sums::Form,
@@ -88,19 +69,17 @@ fn add_item(
     requires { ⌜ Several work (now new) × (e < work .count) × (seat < work .rows) ⌝ }
     requires { ⌜ Made z (i .0) run × Fits f (work .size) (now pad) (now p) × Sound (run .sum) f (now new) (now at) ⌝ }
     ensures { λ r. ⌜ Made z (i .0) r × Sound (r .sum) f (now (new .entry)) (now (at .exit)) ⌝ }
-    ensures { λ r. ⌜ ((k x : List ℕ) → seat + 1 ≡ T.positionOf standard k (work .rows) (T.rowOf (work .rows) (work .first + e)) → held (run .sum) f (now (new .entry)) (now (at .entry)) (now (p .entry)) ≡ after k (tokenKey z (i .0)) work (now (new .entry)) e x → held (r .sum) f (now (new .entry)) (now (at .exit)) (now (p .exit)) ≡ after k (tokenKey z (i .0)) work (now (new .entry)) (e + 1) x) ⌝ }
+    ensures { λ r. ⌜ ((k x : List ℕ) → seat + 1 ≡ T.positionOf standard k (work .rows) (T.rowOf (work .rows) (numberAt work (now (new .entry)) e)) → held (run .sum) f (now (new .entry)) (now (at .entry)) (now (p .entry)) ≡ after k (tokenKey z (i .0)) work (now (new .entry)) e x → held (r .sum) f (now (new .entry)) (now (at .exit)) (now (p .exit)) ≡ after k (tokenKey z (i .0)) work (now (new .entry)) (e + 1) x) ⌝ }
 {
     if work.positions <= seat {
         return run;
     }
     let c = key_of(run, z, i);
-    let m = number_of(work, e);
+    let m = items::number_of(work, new, e);
     let column = tokens::column_of(work.rows, m);
     let index = tokens::index_of(work.rows, column, counts::Position(seat + 1));
-    let head = tokens::head_of(c, index);
-    let a = (e * work.size) as usize;
     let s = run.sum;
-    let sum = sums::add(s, f, &head, new, a, work.size as usize, pad, p, at);
+    let sum = items::add_contents(s, c, index, work, e, f, new, pad, p, at);
     Run { sum, made: true, c }
 }
 
@@ -109,7 +88,7 @@ fn add_items(
     run: Run,
     z: hmac::Key,
     i: counts::Token,
-    work: Work,
+    work: items::Work,
     from: u64,
     n: usize,
     ends: &[u64],
@@ -122,7 +101,7 @@ fn add_items(
     requires { ⌜ Several work (now new) × (from + n ≤ work .count) × (n ≤ length (now ends)) × ((e : ℕ) → e < n → getD (now ends) e 0 < work .rows) ⌝ }
     requires { ⌜ Made z (i .0) run × Fits f (work .size) (now pad) (now p) × Sound (run .sum) f (now new) (now at) ⌝ }
     ensures { λ r. ⌜ Made z (i .0) r × Sound (r .sum) f (now (new .entry)) (now (at .exit)) ⌝ }
-    ensures { λ r. ⌜ ((k x : List ℕ) → Placed k work from n (now (ends .entry)) → held (run .sum) f (now (new .entry)) (now (at .entry)) (now (p .entry)) ≡ after k (tokenKey z (i .0)) work (now (new .entry)) from x → held (r .sum) f (now (new .entry)) (now (at .exit)) (now (p .exit)) ≡ after k (tokenKey z (i .0)) work (now (new .entry)) (from + n) x) ⌝ }
+    ensures { λ r. ⌜ ((k x : List ℕ) → Placed k work (now (new .entry)) from n (now (ends .entry)) → held (run .sum) f (now (new .entry)) (now (at .entry)) (now (p .entry)) ≡ after k (tokenKey z (i .0)) work (now (new .entry)) from x → held (r .sum) f (now (new .entry)) (now (at .exit)) (now (p .exit)) ≡ after k (tokenKey z (i .0)) work (now (new .entry)) (from + n) x) ⌝ }
 {
     let mut going = run;
     let mut e: usize = 0;
@@ -152,7 +131,7 @@ fn add_some(
     table: &[u16],
     z: hmac::Key,
     i: counts::Token,
-    work: Work,
+    work: items::Work,
     from: u64,
     n: usize,
     f: sums::Form,
@@ -168,7 +147,7 @@ fn add_some(
     ensures { λ r. ⌜ Made z (i .0) r × Sound (r .sum) f (now (new .entry)) (now (at .exit)) ⌝ }
     ensures { λ r. ⌜ ((k x : List ℕ) → words ≡ keyWords k → held (run .sum) f (now (new .entry)) (now (at .entry)) (now (p .entry)) ≡ after k (tokenKey z (i .0)) work (now (new .entry)) from x → held (r .sum) f (now (new .entry)) (now (at .exit)) (now (p .exit)) ≡ after k (tokenKey z (i .0)) work (now (new .entry)) (from + n) x) ⌝ }
 {
-    lay_rows(work, from, n, starts);
+    lay_rows(work, new, from, n, starts);
     walks::backward_each(words, table, work.rows, n, starts, ends);
     add_items(run, z, i, work, from, n, ends, f, new, pad, p, at)
 }
@@ -191,7 +170,7 @@ fn several_in(
     table: &[u16],
     z: hmac::Key,
     i: counts::Token,
-    work: Work,
+    work: items::Work,
     f: sums::Form,
     new: &[u8],
     pad: &[u8],
@@ -238,12 +217,12 @@ fn several_in(
     sums::settled(sum, f, new, &at, p)
 }
 
-// A token's digest x after several blocks are added, block by block. Its key k is made once, and c where it draws a block.
+// A token's digest x after several block changes, block by block. Its key k is made once, and c where it draws a block.
 fn by_blocks(
     w: hmac::Key,
     z: hmac::Key,
     i: counts::Token,
-    work: Work,
+    work: items::Work,
     new: &[u8],
     x: [u8; 32],
     walks: &mut [u16],
@@ -282,11 +261,11 @@ fn by_positions(
     w: hmac::Key,
     z: hmac::Key,
     i: counts::Token,
-    work: Work,
+    work: items::Work,
     new: &[u8],
     x: [u8; 32],
 ) -> [u8; 32]
-    requires { ⌜ Several work (now new) ⌝ }
+    requires { ⌜ Several work (now new) × (work .listed ≡ false) ⌝ }
     ensures { λ r. ⌜ r ≡ after (tokenKey w (i .0)) (tokenKey z (i .0)) work (now (new .entry)) (work .count) x ⌝ }
 {
     let k = tokens::token_key(w, i);
@@ -301,12 +280,22 @@ fn by_positions(
     digests::grown(k, c, b, work.positions, &new[..whole], x)
 }
 
-// A token's digest x after several blocks are added: position by position where this takes no more walks, else block by block.
+// Whether so many blocks are added that position by position takes no more walks.
+fn dense(work: items::Work) -> bool
+    ensures { λ r. ⌜ (r ≡ true → work .listed ≡ false) ⌝ }
+{
+    if work.listed {
+        return false;
+    }
+    work.positions <= work.count
+}
+
+// A token's digest x after several block changes: position by position where so many are added, else block by block.
 fn several(
     w: hmac::Key,
     z: hmac::Key,
     i: counts::Token,
-    work: Work,
+    work: items::Work,
     new: &[u8],
     x: [u8; 32],
     walks: &mut [u16],
@@ -317,7 +306,7 @@ fn several(
     requires { ⌜ Several work (now new) × Room (now walks) (now starts) (now ends) (now p) ⌝ }
     ensures { λ r. ⌜ r ≡ after (tokenKey w (i .0)) (tokenKey z (i .0)) work (now (new .entry)) (work .count) x ⌝ }
 {
-    if work.positions <= work.count {
+    if dense(work) {
         return by_positions(w, z, i, work, new, x);
     }
     by_blocks(w, z, i, work, new, x, walks, starts, ends, p)
@@ -329,7 +318,7 @@ pub fn worked(
     w: hmac::Key,
     z: hmac::Key,
     i: counts::Token,
-    work: Work,
+    work: items::Work,
     old: &[u8],
     new: &[u8],
     x: [u8; 32],
@@ -338,14 +327,15 @@ pub fn worked(
     ends: &mut [u64],
     p: &mut [u8],
 ) -> [u8; 32]
-    requires { ⌜ Lent work (now old) (now new) × (work .count ≢ 1 → Room (now walks) (now starts) (now ends) (now p)) ⌝ }
+    requires { ⌜ Lent work (now old) (now new) × (alone work ≡ false → Room (now walks) (now starts) (now ends) (now p)) ⌝ }
     ensures { λ r. ⌜ r ≡ T.workedDigest standard (tokenKey w (i .0)) (tokenKey z (i .0)) (work .rows) (work .positions) (itemsOf work (now (old .entry)) (now (new .entry))) x ⌝ }
 {
-    if work.count != 1 {
+    let one = items::alone(work);
+    if !one {
         return several(w, z, i, work, new, x, walks, starts, ends, p);
     }
     let size = work.size as usize;
-    let m = number_of(work, 0);
+    let m = counts::Block(work.first);
     tokens::changed(
         w,
         z,

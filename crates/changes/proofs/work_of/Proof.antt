@@ -1,7 +1,9 @@
 -- The kind is known in each arm.
 use borrow.Author.Needs.{needs}
+use Prim.Native.Nat.{ℕ, _/_}
 use mathlib.Core.Path.{sym, ap, _∙_}
-use Rattle.changes.specs.Edits.{workFor}
+use mathlib.Core.Bool.{true, false}
+use Rattle.changes.specs.Edits.{workWith, workFor}
 use Rattle.changes.specs.declared.Kind.{Kind}
 use Rattle.changes.proofs.work_of.Statement.{statement}
 use Rattle.changes.proofs.work_of.Tie as tie
@@ -42,6 +44,18 @@ div-work-with-2 c = search needs
 work-with-requires-4 : tie.Need-work-with-requires-4
 work-with-requires-4 c κs = search needs
 
+enum-told-5 : tie.Need-enum-told-5
+enum-told-5 c = search needs
+
+item-bytes-requires : tie.Need-item-bytes-requires
+item-bytes-requires c κs = search needs
+
+div-work-with-3 : tie.Need-div-work-with-3
+div-work-with-3 c = search needs
+
+work-with-requires-5 : tie.Need-work-with-requires-5
+work-with-requires-5 c κs = search needs
+
 returns : tie.Need-returns
 returns c =
     let a = c .before .before .before .args in
@@ -62,6 +76,13 @@ returns-4 c =
     let a = c .before .before .before .before .before .args in
     c .work-with4 .ensures ∙ sym (ap (λ (k : Kind). workFor (a .c) k (a .m) (a .long)) (c .before .before .before .enum-told4 .given .1))
 
+returns-5 : tie.Need-returns-5
+returns-5 c =
+    let a = c .before .before .before .before .args in
+    c .work-with5 .ensures
+    ∙ ap (λ (n : ℕ). workWith (a .c) 0 (a .long / n) false true) (c .before .item-bytes .ensures .0)
+    ∙ sym (ap (λ (k : Kind). workFor (a .c) k (a .m) (a .long)) (c .before .before .enum-told5 .given .1))
+
 pub work-of-spec : {M : Type 1} → statement M
 work-of-spec =
     tie.close
@@ -78,7 +99,12 @@ work-of-spec =
     add-work-with-2
     div-work-with-2
     work-with-requires-4
+    enum-told-5
+    item-bytes-requires
+    div-work-with-3
+    work-with-requires-5
     returns
     returns-2
     returns-3
-    returns-4)
+    returns-4
+    returns-5)

@@ -1,8 +1,12 @@
 -- The room is asked for only where there are several changes, and then it is made.
 use borrow.Author.Needs.{needs}
-use mathlib.Core.Path.{refl}
+use mathlib.Core.Path.{sym, _∙_}
+use mathlib.Core.Bool.{false≢true}
 use Rattle.reseals.proofs.reseal.Statement.{statement}
 use Rattle.reseals.proofs.reseal.Tie as tie
+
+alone-requires : tie.Need-alone-requires
+alone-requires c κs = search needs
 
 slice-aggregate-reseal-in : tie.Need-slice-aggregate-reseal-in
 slice-aggregate-reseal-in c = search needs
@@ -20,7 +24,7 @@ reseal-in-requires : tie.Need-reseal-in-requires
 reseal-in-requires c κs =
     let one = c .before .before .before .before .before in
     let s = one .before .before .before .before .before in
-    (s .pre, λ several. absurd (several (one .if1 .taken)))
+    (s .pre, λ several. absurd (false≢true (sym several ∙ sym (one .before .alone .ensures) ∙ one .if1 .taken)))
 
 same-length : tie.Need-same-length
 same-length c = search needs
@@ -55,6 +59,7 @@ pub reseal-spec : {M : Type 1} → statement M
 reseal-spec =
     tie.close
     (tie.spec
+    alone-requires
     slice-aggregate-reseal-in
     slice-aggregate-reseal-in-2
     slice-aggregate-reseal-in-3

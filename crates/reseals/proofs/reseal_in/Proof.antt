@@ -10,7 +10,7 @@ use Rattle.scheme.proofs.TableLaws.{reseal-end}
 use Rattle.standard.specs.Standard.{standard}
 use Rattle.records.specs.Fields.{cardOf}
 use Rattle.tokens.specs.Keyed.{Keyed}
-use Rattle.works.specs.Items.{itemsOf}
+use Rattle.items.specs.Items.{itemsOf}
 use Rattle.reseals.proofs.ResealLaws.{bad-opens, turn, reseal-more}
 use Rattle.reseals.proofs.reseal_in.Statement.{statement}
 use Rattle.reseals.proofs.reseal_in.Tie as tie

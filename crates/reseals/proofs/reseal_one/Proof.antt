@@ -7,7 +7,7 @@ use Rattle.scheme.specs.Tokens.{workedDigest}
 use Rattle.standard.specs.Standard.{standard}
 use Rattle.records.specs.Fields.{cardOf}
 use Rattle.tokens.specs.Keyed.{tokenKey}
-use Rattle.works.specs.Items.{itemsOf}
+use Rattle.items.specs.Items.{itemsOf}
 use Rattle.reseals.proofs.ResealLaws.{one-record}
 use Rattle.reseals.proofs.reseal_one.Statement.{statement}
 use Rattle.reseals.proofs.reseal_one.Tie as tie

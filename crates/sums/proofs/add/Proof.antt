@@ -67,6 +67,7 @@ with-hashes-requires c κs =
     let lay = c .before .before .before .before .before .before .lay in
     let s = c .before .before .before .before .before .before .before .before .before .before .before .before .before .before .before in
     let a = s .args in (
+      omega arith,
       search needs,
       s .pre .1 .shaped,
       room-kept (a .s) (a .f) (a .head .now) (a .far .now) (a .at .now) (a .p .now) _ (a .pad .now) _ (a .a) (a .size) (s .pre .0) (s .pre .1) (s .pre .2) (s .pre .3) (s .pre .4)

@@ -14,7 +14,7 @@ returns c =
 with-hashes-requires : tie.Need-with-hashes-requires
 with-hashes-requires c κs =
     let p = c .before .before .before .before .pre in
-    (search needs, p .1, p .2, p .0 .inside (p .0 .some (omega (arith, c .if1 .left))))
+    (omega (arith, c .if1 .left), search needs, p .1, p .2, p .0 .inside (p .0 .some (omega (arith, c .if1 .left))))
 
 returns-2 : tie.Need-returns-2
 unfolding held

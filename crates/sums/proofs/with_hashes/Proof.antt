@@ -1,12 +1,13 @@
 -- After k turns the hashes of the first k messages are in the digest, by hashes-turn.
 use borrow.Author.Needs.{needs}
 use native.Mathlib.Omega.{arith}
-use mathlib.Core.Path.{_≡_}
+use mathlib.Core.Path.{_≡_, ap, _∙_}
 use Prim.Native.Nat.{_-_, _≤_}
 use Rattle.octets.specs.Octets.{xors}
+use Rattle.sha256.specs.Sha256 as S
 use Rattle.sums.specs.Waiting.{hashes}
 use Rattle.sums.proofs.PlaceLaws.{lanes-few}
-use Rattle.sums.proofs.WaitingLaws.{hashes-none, hashes-turn, hashes-done}
+use Rattle.sums.proofs.WaitingLaws.{hashes-none, hashes-turn, hashes-done, joined-same, inside-own}
 use Rattle.sums.proofs.with_hashes.Statement.{statement}
 use Rattle.sums.proofs.with_hashes.Tie as tie
 
@@ -19,25 +20,31 @@ abbrev μ-loop : tie.MeasureT-loop
 add-lanes : tie.Need-add-lanes Inv-loop μ-loop
 add-lanes c = search needs
 
+places-of-requires : tie.Need-places-of-requires Inv-loop μ-loop
+places-of-requires c κs = search needs
+
 mul-lanes : tie.Need-mul-lanes Inv-loop μ-loop
 mul-lanes c = search needs
 
 hash-each-requires : tie.Need-hash-each-requires Inv-loop μ-loop
 hash-each-requires c κs =
-    let s = c .before .before in
+    let own = c .before .places-of in
+    let s = c .before .before .before .before in
+    let a = s .args in
     let p = s .pre in
-    let shaped = p .1 in (
-      lanes-few (s .args .fill) (p .0),
+    let shaped = p .2 in
+    let few = lanes-few (a .fill) (p .1) in (
+      few,
       shaped .some,
       shaped .blocks,
-      omega (arith, shaped .few, p .2),
+      omega (arith, shaped .few, p .3),
       shaped .gaps,
-      record { fits = λ i h. p .3 .fits i (omega (arith, p .0)) },
+      inside-own (a .far .now) (own .result) (a .at .now) (a .f .gap) (a .fill) _ few (own .ensures .0) (own .ensures .1) (p .4),
     )
 
 loop-holds : tie.Need-loop-holds Inv-loop μ-loop
 loop-holds c =
-    let s = c .before .before .before in
+    let s = c .before .before .before .before .before in
     let a = s .args in
     (search needs, hashes-none (a .p .now) (a .f .long) (a .far .now) (a .f .gap) (a .at .now) (a .x) (search needs))
 
@@ -57,11 +64,14 @@ loop-again : tie.Need-loop-again Inv-loop μ-loop
 loop-again c =
     let t = c .before .before .before in
     let l = t .before .loop in
-    let s = t .before .before .before .before .before in
+    let hashed = t .before .before in
+    let own = hashed .before .before .places-of in
+    let s = hashed .before .before .before .before .before in
     let a = s .args in
-    let below = t .before .before .hash-each .ensures (l .k) (omega (arith, t .loop-test .taken)) in (
+    let below = hashed .hash-each .ensures (l .k) (omega (arith, t .loop-test .taken)) in
+    let same = joined-same (a .p .now) (a .f .long) (a .far .now) (own .result) (a .at .now) (a .f .gap) (l .k) (own .ensures .0 (l .k) (t .loop-test .taken)) in (
       search needs,
-      hashes-turn (a .p .now) (a .f .long) (a .far .now) (a .f .gap) (a .at .now) _ _ _ _ _ (l .k) (l .inv .1) below (c .before .digest-of .ensures) (c .xor32 .ensures),
+      hashes-turn (a .p .now) (a .f .long) (a .far .now) (a .f .gap) (a .at .now) _ _ _ _ _ (l .k) (l .inv .1) (below ∙ ap S.hashed same) (c .before .digest-of .ensures) (c .xor32 .ensures),
     )
 
 returns : tie.Need-returns Inv-loop μ-loop
@@ -77,6 +87,7 @@ with-hashes-spec =
     μ-loop
     add-lanes
     mul-lanes
+    places-of-requires
     hash-each-requires
     loop-holds
     digest-of-requires

@@ -6,8 +6,8 @@ use mathlib.Core.Path.{_≡_, sym, ap, _∙_}
 use mathlib.Core.List.{List}
 use Rattle.tokens.specs.Keyed.{tokenKey}
 use Rattle.sums.specs.Waiting.{held, Sound}
-use Rattle.works.specs.Items.{after}
-use Rattle.works.specs.Runs.{Fits, Made, Placed}
+use Rattle.items.specs.Items.{Fits}
+use Rattle.works.specs.Runs.{after, Made, Placed}
 use Rattle.works.proofs.add_items.Statement.{statement}
 use Rattle.works.proofs.add_items.Tie as tie
 
@@ -17,7 +17,7 @@ Inv-loop z i work from n ends f new pad p₀ at₀ going₀ e₀ p at going e =
     × Made z (i .0) going
     × Fits f (work .size) pad p
     × Sound (going .sum) f new at
-    × ((k x : List ℕ) → Placed k work from e ends → held (going₀ .sum) f new at₀ p₀ ≡ after k (tokenKey z (i .0)) work new from x
+    × ((k x : List ℕ) → Placed k work new from e ends → held (going₀ .sum) f new at₀ p₀ ≡ after k (tokenKey z (i .0)) work new from x
     → held (going .sum) f new at p ≡ after k (tokenKey z (i .0)) work new (from + e) x)
 
 abbrev μ-loop : tie.MeasureT-loop
@@ -43,7 +43,7 @@ loop-holds c =
 add-add-item : tie.Need-add-add-item Inv-loop μ-loop
 add-add-item c =
     let s = c .before .before .before .before .before .before in
-    omega (arith, c .loop-test .taken, s .pre .0 .1, s .pre .0 .0 .0 .few)
+    omega (arith, c .loop-test .taken, s .pre .0 .1, s .pre .0 .0 .few)
 
 mul-add-item : tie.Need-mul-add-item Inv-loop μ-loop
 mul-add-item c = search needs
@@ -64,7 +64,7 @@ add-e : tie.Need-add-e Inv-loop μ-loop
 add-e c =
     let turn = c .before .before .before .before .before .before in
     let s = turn .before .before .before .before .before .before in
-    omega (arith, turn .loop-test .taken, s .pre .0 .1, s .pre .0 .0 .0 .few)
+    omega (arith, turn .loop-test .taken, s .pre .0 .1, s .pre .0 .0 .few)
 
 loop-less : tie.Need-loop-less Inv-loop μ-loop
 loop-less c = omega (arith, c .before .before .before .before .before .before .loop-test .taken)

@@ -27,23 +27,23 @@ key-words-requires c κs = search needs
 tabulated-requires : tie.Need-tabulated-requires
 tabulated-requires c κs =
     let s = c .before .before .before .before .before .before .before .before .before in
-    (s .pre .0 .0 .rowed, s .pre .0 .0 .few-rows, s .pre .1 .walks-long)
+    (s .pre .0 .rowed, s .pre .0 .few-rows, s .pre .1 .walks-long)
 
 add-pad : tie.Need-add-pad
 add-pad c =
     let s = c .before .before .before .before .before .before .before .before .before .before .before .before .before in
-    omega (arith, s .pre .0 .0 .small)
+    omega (arith, s .pre .0 .small)
 
 pad-requires : tie.Need-pad-requires
 pad-requires c κs =
     let s = c .before .before .before .before .before .before .before .before .before .before .before .before .before in
-    omega (arith, s .pre .0 .0 .small)
+    omega (arith, s .pre .0 .small)
 
 form-of-requires : tie.Need-form-of-requires
 form-of-requires c κs =
     let padded = c .before in
     let s = padded .before .before .before .before .before .before .before .before .before .before .before .before .before .before in
-    (omega arith, s .pre .0 .0 .small, sym (pad-long padded) ∙ ap length (padded .pad .ensures .1))
+    (omega arith, s .pre .0 .small, sym (pad-long padded) ∙ ap length (padded .pad .ensures .1))
 
 slice-reshare-prefix-several-in : tie.Need-slice-reshare-prefix-several-in
 slice-reshare-prefix-several-in c =

@@ -21,30 +21,36 @@ token-key-requires-2 : tie.Need-token-key-requires-2
 token-key-requires-2 c κs = search needs
 
 mul-whole : tie.Need-mul-whole
-mul-whole c = search needs
+mul-whole c =
+    let s = c .before .before .before .before in
+    let added = s .pre .0 .added (s .pre .1) in
+    omega (arith, added .whole)
 
 sub-t11 : tie.Need-sub-t11
-sub-t11 c = search needs
+sub-t11 c =
+    let s = c .before .before .before .before .before in
+    s .pre .0 .added (s .pre .1) .from-one
 
 slice-aggregate-grown : tie.Need-slice-aggregate-grown
 slice-aggregate-grown c =
     let s = c .before .before .before .before .before .before in
     let a = s .args in
-    sym (length-take-le (a .work .count * a .work .size) (a .new .now) (s .pre .0 .new-whole))
+    sym (length-take-le (a .work .count * a .work .size) (a .new .now) (s .pre .0 .added (s .pre .1) .whole))
 
 grown-requires : tie.Need-grown-requires
 grown-requires c κs =
     let s = c .before .before .before .before .before .before in
     let a = s .args in
-    let lent = s .pre .0 in (
+    let several = s .pre .0 in
+    let added = several .added (s .pre .1) in (
       record {
-        rowed = lent .rowed;
-        few-rows = lent .few-rows;
-        small = lent .small;
-        few = omega (arith, lent .from-one, lent .few);
-        whole = length-take-le (a .work .count * a .work .size) (a .new .now) (lent .new-whole);
+        rowed = several .rowed;
+        few-rows = several .few-rows;
+        small = several .small;
+        few = omega (arith, added .from-one, added .most);
+        whole = length-take-le (a .work .count * a .work .size) (a .new .now) (added .whole);
       },
-      lent .drawn,
+      several .drawn,
     )
 
 returns : tie.Need-returns
@@ -54,8 +60,9 @@ returns c =
     let s = drawing .before .before in
     let a = s .args in
     let w = a .work in
-    let lent = s .pre .0 in
-    after-grown (tokenKey (a .w) (a .i .0)) (tokenKey (a .z) (a .i .0)) w (a .new .now) (s .pre .1) (a .x) _ (w .first - 1) (omega (arith, lent .from-one)) (lent .new-whole)
+    let blocks = s .pre .0 .added (s .pre .1) in
+    after-grown (tokenKey (a .w) (a .i .0)) (tokenKey (a .z) (a .i .0)) w (a .new .now) (a .x) _ (w .first - 1) (s .pre .1) (blocks .fresh) (omega (arith, blocks .from-one))
+    (blocks .whole)
     (c .grown .ensures
     ∙ ap₂ (λ (k h : List ℕ). workedDigest standard k h (w .rows) (w .positions) (addedFrom (w .first - 1 + 1) (pieces (w .size) (w .count) (take (w .count * w .size) (a .new .now)))) (a .x))
     (drawing .token-key .ensures)

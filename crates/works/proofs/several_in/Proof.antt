@@ -10,8 +10,8 @@ use Rattle.chacha20.specs.ChaCha20.{keyWords}
 use Rattle.tokens.specs.Keyed.{tokenKey}
 use Rattle.sums.specs.Waiting.{held, Sound}
 use Rattle.sums.proofs.WaitingLaws.{held-all, sound-none}
-use Rattle.works.specs.Items.{after}
-use Rattle.works.specs.Runs.{Fits, Made}
+use Rattle.items.specs.Items.{Fits}
+use Rattle.works.specs.Runs.{after, Made}
 use Rattle.works.proofs.ItemLaws.{after-none}
 use Rattle.works.proofs.several_in.Statement.{statement}
 use Rattle.works.proofs.several_in.Tie as tie
@@ -49,7 +49,7 @@ loop-holds c =
       sound-none sum (a .f) (a .new .now) (c .start .ensures .0),
       s .pre .3,
       s .pre .4,
-      λ k ew. after-none k (tokenKey (a .z) (a .i .0)) (a .work) (a .new .now) (s .pre .0 .1) _
+      λ k ew. after-none k (tokenKey (a .z) (a .i .0)) (a .work) (a .new .now) _
           ∙ ap (λ (n : ℕ). after k (tokenKey (a .z) (a .i .0)) (a .work) (a .new .now) n (held sum (a .f) (a .new .now) (replicate 16 0) (a .p .now))) none,
     )
 

@@ -1,19 +1,25 @@
 -- Several changes by after-all, a change that comes alone by after-one.
 use borrow.Author.Needs.{needs}
+use borrow.Author.Tests.{not-true, not-false}
 use native.Mathlib.Omega.{arith}
-use mathlib.Core.Path.{sym, _∙_}
+use mathlib.Core.Path.{_≡_, sym, _∙_}
+use mathlib.Core.Bool.{true, false}
 use lib.Seq.{length-take-le}
 use Rattle.tokens.specs.Keyed.{tokenKey}
-use Rattle.works.proofs.ItemLaws.{one-inside, lent-new, after-one, after-all}
+use Rattle.items.specs.Items.{alone}
+use Rattle.works.proofs.ItemLaws.{after-one, after-all}
 use Rattle.works.proofs.worked.Statement.{statement}
 use Rattle.works.proofs.worked.Tie as tie
+
+alone-requires : tie.Need-alone-requires
+alone-requires c κs = search needs
 
 several-requires : tie.Need-several-requires
 several-requires c κs =
     let many = c .before .before .before .before in
     let s = many .before .before .before .before .before .before .before .before in
-    let a = s .args in
-    ((lent-new (a .work) (a .old .now) (a .new .now) (s .pre .0), s .pre .0 .added (many .if1 .taken)), s .pre .1 (many .if1 .taken))
+    let m : alone (s .args .work) ≡ false = sym (many .before .alone .ensures) ∙ not-true _ (many .if1 .taken) in
+    (s .pre .0 .several m, s .pre .1 m)
 
 same-length : tie.Need-same-length
 same-length c = search needs
@@ -33,60 +39,56 @@ returns c =
     let many = done .before .before .before .before .before in
     let s = many .before .before .before .before .before .before .before .before in
     let a = s .args in
+    let m : alone (a .work) ≡ false = sym (many .before .alone .ensures) ∙ not-true _ (many .if1 .taken) in
     done .several .ensures
-    ∙ after-all (tokenKey (a .w) (a .i .0)) (tokenKey (a .z) (a .i .0)) (a .work) (a .new .now) (s .pre .0 .added (many .if1 .taken)) (a .old .now) (a .x)
-
-number-of-requires : tie.Need-number-of-requires
-number-of-requires c κs =
-    let s = c .before .before .before .before .before .before .before .before in
-    omega (arith, s .pre .0 .few)
+    ∙ after-all (tokenKey (a .w) (a .i .0)) (tokenKey (a .z) (a .i .0)) (a .work) (a .new .now) (a .old .now) (a .x) (λ l. s .pre .0 .several m .added l .fresh)
 
 slice-aggregate-changed : tie.Need-slice-aggregate-changed
 slice-aggregate-changed c =
-    let one = c .before .before in
+    let one = c .before in
     let s = one .before .before .before .before .before .before .before .before in
-    let a = s .args in
-    sym (length-take-le (a .work .size) (a .old .now) (one-inside (a .work .count) (a .work .size) (a .old .now) (one .if1 .left) (s .pre .0 .old-whole)))
+    let lent = s .pre .0 .one (sym (one .before .alone .ensures) ∙ not-false _ (one .if1 .left)) in
+    sym (length-take-le (s .args .work .size) (s .args .old .now) (lent .old-whole))
 
 slice-aggregate-changed-2 : tie.Need-slice-aggregate-changed-2
 slice-aggregate-changed-2 c =
-    let one = c .before .before .before in
+    let one = c .before .before in
     let s = one .before .before .before .before .before .before .before .before in
-    let a = s .args in
-    sym (length-take-le (a .work .size) (a .new .now) (one-inside (a .work .count) (a .work .size) (a .new .now) (one .if1 .left) (s .pre .0 .new-whole)))
+    let lent = s .pre .0 .one (sym (one .before .alone .ensures) ∙ not-false _ (one .if1 .left)) in
+    sym (length-take-le (s .args .work .size) (s .args .new .now) (lent .new-whole))
 
 changed-requires : tie.Need-changed-requires
 changed-requires c κs =
-    let one = c .before .before .before in
+    let one = c .before .before in
     let s = one .before .before .before .before .before .before .before .before in
     let a = s .args in
-    let lent = s .pre .0 in
-    let o = length-take-le (a .work .size) (a .old .now) (one-inside (a .work .count) (a .work .size) (a .old .now) (one .if1 .left) (lent .old-whole)) in
-    let n = length-take-le (a .work .size) (a .new .now) (one-inside (a .work .count) (a .work .size) (a .new .now) (one .if1 .left) (lent .new-whole)) in
-    let m = c .before .before .number-of .ensures in (
-      (lent .rowed, lent .few-rows, omega (arith, m, lent .from-one), omega (arith, m, lent .few)),
-      (omega (arith, o, lent .small), omega (arith, n, lent .small)),
+    let lent = s .pre .0 .one (sym (one .before .alone .ensures) ∙ not-false _ (one .if1 .left)) in (
+      (lent .rowed, lent .few-rows, lent .from-one, omega (arith, lent .most)),
+      (
+        omega (arith, length-take-le (a .work .size) (a .old .now) (lent .old-whole), lent .small),
+        omega (arith, length-take-le (a .work .size) (a .new .now) (lent .new-whole), lent .small),
+      ),
     )
 
 returns-2 : tie.Need-returns-2
 returns-2 c =
-    let one = c .before .before .before .before in
+    let one = c .before .before .before in
     let s = one .before .before .before .before .before .before .before .before in
     let a = s .args in
-    after-one (tokenKey (a .w) (a .i .0)) (tokenKey (a .z) (a .i .0)) (a .work) (a .old .now) (a .new .now) (a .x) (one .if1 .left) _ _
-    (c .before .before .before .number-of .ensures) (c .changed .ensures)
+    after-one (tokenKey (a .w) (a .i .0)) (tokenKey (a .z) (a .i .0)) (a .work) (a .old .now) (a .new .now) (a .x)
+    (sym (one .before .alone .ensures) ∙ not-false _ (one .if1 .left)) _ (c .changed .ensures)
 
 pub worked-spec : {M : Type 1} → statement M
 worked-spec =
     tie.close
     (tie.spec
+    alone-requires
     several-requires
     same-length
     same-length-2
     same-length-3
     same-length-4
     returns
-    number-of-requires
     slice-aggregate-changed
     slice-aggregate-changed-2
     changed-requires

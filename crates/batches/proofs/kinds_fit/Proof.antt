@@ -1,0 +1,71 @@
+-- What is left to ask stays, item by item, by all-next.
+use borrow.Author.Needs.{needs}
+use borrow.Author.Tests.{not-true, not-false}
+use native.Mathlib.Omega.{arith}
+use Prim.Native.Nat.{_-_, _≤_}
+use mathlib.Core.Path.{_≡_, sym, _∙_}
+use Rattle.scheme.specs.Batches.{itemsFrom, kindsFit}
+use Rattle.batches.proofs.ItemLaws.{item-room}
+use Rattle.batches.proofs.FoldLaws.{left, all-begun, all-failed, all-next, all-done, kindFits, kinds-none, kinds-more}
+use Rattle.batches.proofs.kinds_fit.Statement.{statement}
+use Rattle.batches.proofs.kinds_fit.Tie as tie
+
+abbrev Inv-loop : tie.InvT-loop
+Inv-loop size count items e₀ e = (e ≤ count) × (kindsFit (itemsFrom size count items) ≡ kindsFit (left size count e items))
+
+abbrev μ-loop : tie.MeasureT-loop
+μ-loop size count items e₀ e = count - e
+
+loop-holds : tie.Need-loop-holds Inv-loop μ-loop
+loop-holds c =
+    let a = c .before .args in
+    (omega arith, all-begun (a .size) (a .count) (a .items .now) kindFits kindsFit kinds-none kinds-more)
+
+kind-fits-requires : tie.Need-kind-fits-requires Inv-loop μ-loop
+kind-fits-requires c κs =
+    let s = c .before .before .before in
+    let a = s .args in
+    (s .pre .0, omega arith, item-room (c .before .loop .e) (a .count) (a .size) _ (omega arith) (s .pre .2))
+
+returns : tie.Need-returns Inv-loop μ-loop
+returns c =
+    let l = c .before .before .before .loop in
+    let a = c .before .before .before .before .before .args in
+    sym
+    (l .inv .1
+    ∙ all-failed (a .size) (a .count) (a .items .now) kindFits kindsFit kinds-none kinds-more (l .e) (c .before .before .loop-test .taken) (sym (c .before .kind-fits .ensures) ∙ not-true _ (c .if1 .taken)))
+
+add-e : tie.Need-add-e Inv-loop μ-loop
+add-e c = search needs
+
+loop-less : tie.Need-loop-less Inv-loop μ-loop
+loop-less c = search needs
+
+loop-again : tie.Need-loop-again Inv-loop μ-loop
+loop-again c =
+    let l = c .before .before .before .loop in
+    let a = c .before .before .before .before .before .args in (
+      omega arith,
+      l .inv .1
+          ∙ all-next (a .size) (a .count) (a .items .now) kindFits kindsFit kinds-none kinds-more (l .e) (c .before .before .loop-test .taken) (sym (c .before .kind-fits .ensures) ∙ not-false _ (c .if1 .left)),
+    )
+
+returns-2 : tie.Need-returns-2 Inv-loop μ-loop
+returns-2 c =
+    let l = c .before .loop in
+    let a = c .before .before .before .args in
+    sym (l .inv .1 ∙ all-done (a .size) (a .count) (a .items .now) kindFits kindsFit kinds-none kinds-more (l .e) (omega arith))
+
+pub kinds-fit-spec : {M : Type 1} → statement M
+kinds-fit-spec =
+    tie.close
+    (tie.spec
+    Inv-loop
+    μ-loop
+    loop-holds
+    kind-fits-requires
+    returns
+    add-e
+    loop-less
+    loop-again
+    returns-2)

@@ -1,0 +1,129 @@
+// The block changes of a call where they lie: the number of each one's block, and the hashes of what is handed over of it.
+// Every function equals a definition of specs/ or of the scheme's Tokens at the standard primitives. Nothing is assumed.
+ghost use mathlib.Core.Path.{_≡_};
+ghost use mathlib.Core.Bool.{true};
+ghost use Prim.Native.Nat.{_+_, _≤_, _<_};
+ghost use lib.ListN.{length, replicate};
+ghost use Rattle.octets.specs.Octets.{part, xors};
+ghost use Rattle.scheme.specs.Tokens as T;
+ghost use Rattle.standard.specs.Standard.{standard};
+ghost use Rattle.sums.specs.Waiting.{held, Sound};
+ghost use Rattle.items.specs.Items as I;
+
+// The block changes of a call, and the shape of its file: `count` changes of blocks of `size` bytes. They are those of blocks from number `first` on,
+// added where `fresh` is true, else replaced; two buffers go with them, which have the old contents (not read where `fresh` is true) and the new
+// ones, block after block. Or, where `listed` is true, they are the items of a batch, and one buffer goes with them.
+pub struct Work {
+    pub rows: u64,
+    pub positions: u64,
+    pub size: u64,
+    pub first: u64,
+    pub count: u64,
+    pub fresh: bool,
+    pub listed: bool,
+}
+
+// Whether a block change comes alone, with its contents in two buffers.
+pub fn alone(work: Work) -> bool
+    ensures { λ r. ⌜ r ≡ I.alone work ⌝ }
+{
+    if work.listed {
+        return false;
+    }
+    work.count == 1
+}
+
+// The number of the block that change e is of.
+pub fn number_of(work: Work, new: &[u8], e: u64) -> counts::Block
+    requires { ⌜ I.Several work (now new) × (e < work .count) ⌝ }
+    ensures { λ r. ⌜ (r .0 ≡ I.numberAt work (now (new .entry)) e) × (1 ≤ r .0) × (r .0 ≤ 16777216) ⌝ }
+{
+    if work.listed {
+        return batches::number_of(work.size, new, e);
+    }
+    counts::Block(work.first + e)
+}
+
+// The hash of a deleted block at an index, under a hash key c: of zero bytes.
+fn deleted_hash(c: [u8; 32], index: u64, size: u64) -> [u8; 32]
+    requires { ⌜ size ≤ 4096 ⌝ }
+    ensures { λ r. ⌜ r ≡ T.blockHash standard c index (replicate size 0) ⌝ }
+{
+    let zeros = [0u8; 4096];
+    let end = size as usize;
+    tokens::block_hash(c, index, &zeros[..end])
+}
+
+// The sum with the hash of the `size` bytes of `far` from `a` on, at an index, under a hash key c.
+fn add_block(
+    s: sums::Sum,
+    c: [u8; 32],
+    index: u64,
+    size: u64,
+    f: sums::Form,
+    far: &[u8],
+    a: usize,
+    pad: &[u8],
+    p: &mut [u8],
+    at: &mut [usize; 16],
+) -> sums::Sum
+    requires { ⌜ I.Fits f size (now pad) (now p) × Sound s f (now far) (now at) × (a + size ≤ length (now far)) ⌝ }
+    ensures { λ r. ⌜ Sound r f (now (far .entry)) (now (at .exit)) × (held r f (now (far .entry)) (now (at .exit)) (now (p .exit)) ≡ xors (held s f (now (far .entry)) (now (at .entry)) (now (p .entry))) (T.blockHash standard c index (part a size (now (far .entry))))) ⌝ }
+{
+    let head = tokens::head_of(c, index);
+    sums::add(s, f, &head, far, a, size as usize, pad, p, at)
+}
+
+// The sum with the hashes of item e of a batch at an index: of its old block, and of its new one or, where it is a deletion, of zero bytes.
+fn add_correction(
+    s: sums::Sum,
+    c: [u8; 32],
+    index: u64,
+    work: Work,
+    e: u64,
+    f: sums::Form,
+    new: &[u8],
+    pad: &[u8],
+    p: &mut [u8],
+    at: &mut [usize; 16],
+) -> sums::Sum
+    requires { ⌜ I.Several work (now new) × (work .listed ≡ true) × (e < work .count) ⌝ }
+    requires { ⌜ I.Fits f (work .size) (now pad) (now p) × Sound s f (now new) (now at) ⌝ }
+    ensures { λ r. ⌜ Sound r f (now (new .entry)) (now (at .exit)) × (held r f (now (new .entry)) (now (at .exit)) (now (p .exit)) ≡ T.mixed standard c index (I.changeAt work (now (new .entry)) (now (new .entry)) e) (held s f (now (new .entry)) (now (at .entry)) (now (p .entry)))) ⌝ }
+{
+    let size = work.size;
+    let a = batches::item_at(size, e);
+    let b = a + 5;
+    let removed = add_block(s, c, index, size, f, new, b, pad, p, at);
+    if batches::is_update(size, new, e) {
+        let d = b + size as usize;
+        return add_block(removed, c, index, size, f, new, d, pad, p, at);
+    }
+    let h = deleted_hash(c, index, size);
+    sums::with_hash(removed, h)
+}
+
+// The sum with the hashes of what change e of several hands over, at an index, under a hash key c.
+pub fn add_contents(
+    s: sums::Sum,
+    c: [u8; 32],
+    index: u64,
+    work: Work,
+    e: u64,
+    f: sums::Form,
+    new: &[u8],
+    pad: &[u8],
+    p: &mut [u8],
+    at: &mut [usize; 16],
+) -> sums::Sum
+    requires { ⌜ I.Several work (now new) × (e < work .count) ⌝ }
+    requires { ⌜ I.Fits f (work .size) (now pad) (now p) × Sound s f (now new) (now at) ⌝ }
+    ensures { λ r. ⌜ Sound r f (now (new .entry)) (now (at .exit)) × (held r f (now (new .entry)) (now (at .exit)) (now (p .exit)) ≡ T.mixed standard c index (I.changeAt work (now (new .entry)) (now (new .entry)) e) (held s f (now (new .entry)) (now (at .entry)) (now (p .entry)))) ⌝ }
+{
+    if work.listed {
+        return add_correction(s, c, index, work, e, f, new, pad, p, at);
+    }
+    let size = work.size;
+    let a = (e * size) as usize;
+    add_block(s, c, index, size, f, new, a, pad, p, at)
+}

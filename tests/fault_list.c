@@ -1,0 +1,233 @@
+/* See fault_list.h. */
+#include "fault_list.h"
+
+/* What a fault alters: the length of a buffer, which is named by its role, a number, a field of card, message or items, or record 2. */
+enum target {
+    NUMBER_B = ROLES,
+    NUMBER_D,
+    NUMBER_R,
+    NUMBER_T,
+    NUMBER_N,
+    NUMBER_M,
+    CARD_LENGTH,
+    CARD_VERSION,
+    CARD_B,
+    CARD_D,
+    CARD_R,
+    CARD_T,
+    CARD_N,
+    CARD_CTR,
+    CARD_NEXT,
+    CARD_OPEN,
+    MESSAGE_LENGTH,
+    MESSAGE_VERSION,
+    MESSAGE_I,
+    MESSAGE_B,
+    MESSAGE_D,
+    MESSAGE_R,
+    MESSAGE_N,
+    FIRST_KIND,
+    LAST_KIND,
+    FIRST_NUMBER,
+    MIDDLE_NUMBER,
+    LAST_NUMBER,
+    TAG_OF_RECORD_2,
+    TARGETS
+};
+
+#define LENGTH_OF(role) ((enum target)(role))
+
+/* A field of the items, which are three. */
+#define ITEM(item, offset, width) {ITEMS, (item) * LEGBARO_ITEM_BYTES(B) + (offset), width}
+
+static const struct {
+    enum role role;
+    size_t at;
+    unsigned width;
+} fields[TARGETS] = {
+    [CARD_LENGTH] = {CARD, 0, 2},
+    [CARD_VERSION] = {CARD, 2, 1},
+    [CARD_B] = {CARD, LEGBARO_CARD_BLOCK_BYTES, 2},
+    [CARD_D] = {CARD, LEGBARO_CARD_ROWS, 4},
+    [CARD_R] = {CARD, LEGBARO_CARD_POSITIONS, 2},
+    [CARD_T] = {CARD, LEGBARO_CARD_TOKENS, 4},
+    [CARD_N] = {CARD, LEGBARO_CARD_BLOCKS, 4},
+    [CARD_CTR] = {CARD, LEGBARO_CARD_COUNTER, 8},
+    [CARD_NEXT] = {CARD, LEGBARO_CARD_NEXT, 4},
+    [CARD_OPEN] = {CARD, LEGBARO_CARD_OPEN, 4},
+    [MESSAGE_LENGTH] = {MESSAGE, 0, 2},
+    [MESSAGE_VERSION] = {MESSAGE, 2, 1},
+    [MESSAGE_I] = {MESSAGE, 11, 4},
+    [MESSAGE_B] = {MESSAGE, 15, 2},
+    [MESSAGE_D] = {MESSAGE, 17, 4},
+    [MESSAGE_R] = {MESSAGE, 21, 2},
+    [MESSAGE_N] = {MESSAGE, 23, 4},
+    [FIRST_KIND] = ITEM(0, LEGBARO_ITEM_KIND, 1),
+    [LAST_KIND] = ITEM(2, LEGBARO_ITEM_KIND, 1),
+    [FIRST_NUMBER] = ITEM(0, LEGBARO_ITEM_BLOCK, 4),
+    [MIDDLE_NUMBER] = ITEM(1, LEGBARO_ITEM_BLOCK, 4),
+    [LAST_NUMBER] = ITEM(2, LEGBARO_ITEM_BLOCK, 4),
+};
+
+#define CHANGES (IN(UPDATE) | IN(DELETE) | IN(APPEND) | IN(LOAD) | IN(BATCH))
+#define READ_CARD (CHANGES | IN(DRAW) | IN(JUDGE))
+#define WITH_MASTER (IN(SET_UP) | READ_CARD)
+#define NUMBERS (IN(SET_UP) | IN(POSITIONS))
+
+/* Values with a meaning of their own: the token before next, whatever that is, for CARD_OPEN; and for the length of a buffer none,
+ * one byte less, one byte more, one item more than a batch may have. */
+#define BEFORE_NEXT UINT64_MAX
+enum { NO_BYTES, ONE_LESS, ONE_MORE, ONE_ITEM_TOO_MANY };
+
+#define TOO_SHORT(kinds, place, role) {kinds, place, LENGTH_OF(role), NO_BYTES}, {kinds, place, LENGTH_OF(role), ONE_LESS}
+#define WRONG_LENGTH(kinds, place, role) TOO_SHORT(kinds, place, role), {kinds, place, LENGTH_OF(role), ONE_MORE}
+
+/* `next` stands before `open`, and lengths are last. */
+const struct fault faults[] = {
+    {IN(SET_UP), LIMITS, NUMBER_B, 0},
+    {IN(SET_UP), LIMITS, NUMBER_B, LEGBARO_MOST_BLOCK_BYTES + 1},
+    {IN(SET_UP), LIMITS, NUMBER_B, UINT64_MAX},
+    {NUMBERS, LIMITS, NUMBER_D, 0},
+    {NUMBERS, LIMITS, NUMBER_D, LEGBARO_MOST_ROWS + 1},
+    {NUMBERS, LIMITS, NUMBER_D, UINT64_MAX},
+    {IN(POSITIONS), LIMITS, NUMBER_D, N - 1},
+    {IN(POSITIONS), POSITIONS_GIVEN, NUMBER_D, LEGBARO_MOST_ROWS},
+    {NUMBERS, LIMITS, NUMBER_R, 0},
+    {NUMBERS, LIMITS, NUMBER_R, D + 1},
+    {NUMBERS, LIMITS, NUMBER_R, LEGBARO_MOST_POSITIONS + 1},
+    {NUMBERS, LIMITS, NUMBER_R, UINT64_MAX},
+    {IN(POSITIONS), LIMITS, NUMBER_R, N + 1},
+    {IN(SET_UP), LIMITS, NUMBER_T, 0},
+    {IN(SET_UP), LIMITS, NUMBER_T, LEGBARO_MOST_TOKENS + 1},
+    {IN(SET_UP), LIMITS, NUMBER_T, UINT64_MAX},
+    {NUMBERS, LIMITS, NUMBER_N, 0},
+    {NUMBERS, LIMITS, NUMBER_N, LEGBARO_MOST_BLOCKS + 1},
+    {NUMBERS, LIMITS, NUMBER_N, UINT64_MAX},
+    {IN(POSITIONS), LIMITS, NUMBER_N, LEGBARO_MOST_ROWS + 1},
+    {IN(UPDATE) | IN(DELETE), BLOCK_NUMBER, NUMBER_M, 0},
+    {IN(UPDATE) | IN(DELETE), BLOCK_NUMBER, NUMBER_M, NOW_N + 1},
+    {IN(UPDATE) | IN(DELETE), BLOCK_NUMBER, NUMBER_M, UINT64_MAX},
+    {READ_CARD, HEADER, CARD_LENGTH, 0},
+    {READ_CARD, HEADER, CARD_LENGTH, LEGBARO_CARD_BYTES - 3},
+    {READ_CARD, HEADER, CARD_LENGTH, LEGBARO_CARD_BYTES},
+    {READ_CARD, HEADER, CARD_VERSION, 0},
+    {READ_CARD, HEADER, CARD_VERSION, 2},
+    {READ_CARD, LIMITS, CARD_B, 0},
+    {READ_CARD, LIMITS, CARD_B, LEGBARO_MOST_BLOCK_BYTES + 1},
+    {READ_CARD, LIMITS, CARD_D, 0},
+    {READ_CARD, LIMITS, CARD_D, LEGBARO_MOST_ROWS + 1},
+    {READ_CARD, LIMITS, CARD_R, 0},
+    {READ_CARD, LIMITS, CARD_R, D + 1},
+    {READ_CARD, LIMITS, CARD_R, LEGBARO_MOST_POSITIONS + 1},
+    {READ_CARD, LIMITS, CARD_T, 0},
+    {READ_CARD, LIMITS, CARD_T, LEGBARO_MOST_TOKENS + 1},
+    {READ_CARD, LIMITS, CARD_N, 0},
+    {READ_CARD, LIMITS, CARD_N, LEGBARO_MOST_BLOCKS + 1},
+    {IN(APPEND) | IN(LOAD), FULL, CARD_N, LEGBARO_MOST_BLOCKS},
+    {IN(LOAD), FULL, CARD_N, LEGBARO_MOST_BLOCKS - LOADED + 1},
+    {READ_CARD, LIMITS, CARD_CTR, UINT64_C(1) + LEGBARO_MOST_COUNTER},
+    {READ_CARD, LIMITS, CARD_CTR, UINT64_MAX},
+    {CHANGES, COUNTER, CARD_CTR, LEGBARO_MOST_COUNTER},
+    {READ_CARD, LIMITS, CARD_NEXT, 0},
+    {READ_CARD, LIMITS, CARD_NEXT, T + 2},
+    {IN(DRAW), TOKENS_LEFT, CARD_NEXT, T + 1},
+    {READ_CARD, LIMITS, CARD_OPEN, T + 4},
+    {IN(JUDGE), LIMITS, CARD_OPEN, 1},
+    {CHANGES | IN(DRAW), OPEN_OR_NOT, CARD_OPEN, BEFORE_NEXT},
+    {IN(JUDGE), OPEN_OR_NOT, CARD_OPEN, 0},
+    {IN(PROVE), HEADER, MESSAGE_LENGTH, 0},
+    {IN(PROVE), HEADER, MESSAGE_LENGTH, LEGBARO_MESSAGE_BYTES},
+    {IN(PROVE), HEADER, MESSAGE_VERSION, 0},
+    {IN(PROVE), HEADER, MESSAGE_VERSION, 2},
+    {IN(PROVE), LIMITS, MESSAGE_I, 0},
+    {IN(PROVE), LIMITS, MESSAGE_I, LEGBARO_MOST_TOKENS + 1},
+    {IN(PROVE), LIMITS, MESSAGE_B, 0},
+    {IN(PROVE), LIMITS, MESSAGE_B, LEGBARO_MOST_BLOCK_BYTES + 1},
+    {IN(PROVE), LIMITS, MESSAGE_D, 0},
+    {IN(PROVE), LIMITS, MESSAGE_D, LEGBARO_MOST_ROWS + 1},
+    {IN(PROVE), LIMITS, MESSAGE_R, 0},
+    {IN(PROVE), LIMITS, MESSAGE_R, D + 1},
+    {IN(PROVE), LIMITS, MESSAGE_N, 0},
+    {IN(PROVE), LIMITS, MESSAGE_N, LEGBARO_MOST_BLOCKS + 1},
+    {IN(BATCH), ITEMS_FIT, FIRST_KIND, 0},
+    {IN(BATCH), ITEMS_FIT, FIRST_KIND, 3},
+    {IN(BATCH), ITEMS_FIT, LAST_KIND, 0},
+    {IN(BATCH), ITEMS_FIT, LAST_KIND, UINT8_MAX},
+    {IN(BATCH), BLOCK_NUMBER, FIRST_NUMBER, 0},
+    {IN(BATCH), ITEMS_FIT, FIRST_NUMBER, MIDDLE_ITEM},
+    {IN(BATCH), ITEMS_FIT, MIDDLE_NUMBER, 0},
+    {IN(BATCH), ITEMS_FIT, MIDDLE_NUMBER, UINT32_MAX},
+    {IN(BATCH), ITEMS_FIT, LAST_NUMBER, 0},
+    {IN(BATCH), ITEMS_FIT, LAST_NUMBER, MIDDLE_ITEM},
+    {IN(BATCH), BLOCK_NUMBER, LAST_NUMBER, NOW_N + 1},
+    {IN(BATCH), BLOCK_NUMBER, LAST_NUMBER, UINT32_MAX},
+    {CHANGES, RECORDS, TAG_OF_RECORD_2, 0},
+    WRONG_LENGTH(WITH_MASTER, FIXED_SIZE, MASTER),
+    WRONG_LENGTH(WITH_MASTER, FIXED_SIZE, CARD),
+    WRONG_LENGTH(IN(SET_UP), FIXED_SIZE, ID),
+    WRONG_LENGTH(IN(DRAW) | IN(PROVE), FIXED_SIZE, MESSAGE),
+    WRONG_LENGTH(IN(PROVE), FIXED_SIZE, REPLY),
+    WRONG_LENGTH(IN(SET_UP) | IN(PROVE), SIZE, BLOCKS),
+    WRONG_LENGTH(IN(SET_UP) | CHANGES, SIZE, TABLE),
+    TOO_SHORT(IN(PROVE), SIZE, TABLE),
+    WRONG_LENGTH(IN(UPDATE) | IN(DELETE), SIZE, OLD),
+    WRONG_LENGTH(IN(UPDATE) | IN(APPEND), SIZE, NEW),
+    WRONG_LENGTH(IN(LOAD), WHOLE_BLOCKS, BLOCKS),
+    WRONG_LENGTH(IN(BATCH), ITEMS_FIT, ITEMS),
+    {IN(BATCH), ITEMS_FIT, LENGTH_OF(ITEMS), ONE_ITEM_TOO_MANY},
+    WRONG_LENGTH(IN(JUDGE), VERDICT, REPLY),
+};
+
+const int fault_count = sizeof faults / sizeof *faults;
+
+static void make_length_fault(struct buffer *b, uint64_t value)
+{
+    size_t lengths[] = {[NO_BYTES] = 0,
+                        [ONE_LESS] = b->length - 1,
+                        [ONE_MORE] = b->length + 1,
+                        [ONE_ITEM_TOO_MANY] = (LEGBARO_MOST_ITEMS + 1) * LEGBARO_ITEM_BYTES(B)};
+    buffer_resize(b, lengths[value]);
+}
+
+static void make_field_fault(struct call *call, const struct fault *fault)
+{
+    struct buffer *b = &call->lent[fields[fault->target].role];
+    uint64_t value = fault->value;
+    if (fault->target == CARD_OPEN && value == BEFORE_NEXT)
+        value = buffer_number(b, LEGBARO_CARD_NEXT, 4) - 1;
+    buffer_put_number(b, fields[fault->target].at, fields[fault->target].width, value);
+}
+
+void fault_make(struct call *call, const struct fault *fault)
+{
+    uint64_t *const numbers[] = {&call->B, &call->d, &call->r, &call->t, &call->n, &call->m};
+    if (fault->target < LENGTH_OF(ROLES))
+        make_length_fault(&call->lent[fault->target], fault->value);
+    else if (fault->target <= NUMBER_M)
+        *numbers[fault->target - NUMBER_B] = fault->value;
+    else if (fault->target == TAG_OF_RECORD_2)
+        buffer_flip(&call->lent[TABLE], 8 * (2 * LEGBARO_RECORD_BYTES - 1));
+    else
+        make_field_fault(call, fault);
+}
+
+uint64_t fault_number(enum place place, enum kind kind)
+{
+    const uint64_t numbers[] = {
+        [FIXED_SIZE] = LEGBARO_WRONG_LENGTH,
+        [HEADER] = LEGBARO_WRONG_HEADER,
+        [LIMITS] = LEGBARO_OUT_OF_LIMITS,
+        [POSITIONS_GIVEN] = LEGBARO_TOO_MANY_POSITIONS,
+        [SIZE] = LEGBARO_WRONG_LENGTH,
+        [OPEN_OR_NOT] = kind == JUDGE ? LEGBARO_NONE_OPEN : LEGBARO_TOKEN_OPEN,
+        [TOKENS_LEFT] = LEGBARO_NO_TOKEN_LEFT,
+        [ITEMS_FIT] = LEGBARO_BAD_BATCH,
+        [BLOCK_NUMBER] = LEGBARO_NO_SUCH_BLOCK,
+        [WHOLE_BLOCKS] = LEGBARO_NOT_WHOLE_BLOCKS,
+        [FULL] = LEGBARO_FILE_FULL,
+        [COUNTER] = LEGBARO_COUNTER_AT_MOST,
+        [RECORDS] = LEGBARO_BAD_RECORD + 256 * 2,
+        [VERDICT] = LEGBARO_REJECTED,
+    };
+    return numbers[place];
+}

@@ -1,0 +1,53 @@
+/*
+ * The faults that a call may have, each with its place in the order of papers 01 and 02. They are made for calls on files with the numbers
+ * below.
+ */
+#ifndef FAULT_LIST_H
+#define FAULT_LIST_H
+
+#include "calls.h"
+
+/* The files have NOW_N blocks where they are changed. A load has LOADED blocks, a batch has items on the blocks 2, 4 and 6. R × D / N is
+ * 3.75. */
+enum { B = 28, D = 5, R = 3, T = 3, N = 4, NOW_N = N + 3, LOADED = 3, POSITIONS_ANSWER = 4 };
+enum { FIRST_ITEM = 2, MIDDLE_ITEM = 4, LAST_ITEM = 6 };
+
+/* "Order: 1 for buffers of fixed size, 2, 3, 1 for sizes that follow from fields, then 8 or 9, 6, 4, 5, 10, 7", and the verdict last; a
+ * load's 12 "just before 5"; the helper's 13 "after 3"; a batch's 14 "just before 4". */
+enum place {
+    FIXED_SIZE,
+    HEADER,
+    LIMITS,
+    POSITIONS_GIVEN,
+    SIZE,
+    OPEN_OR_NOT,
+    TOKENS_LEFT,
+    ITEMS_FIT,
+    BLOCK_NUMBER,
+    WHOLE_BLOCKS,
+    FULL,
+    COUNTER,
+    RECORDS,
+    VERDICT
+};
+
+/* A fault gives a target of its own a value, in calls of some kinds, a bit for each. */
+struct fault {
+    unsigned kinds;
+    enum place place;
+    unsigned target;
+    uint64_t value;
+};
+
+#define IN(kind) (1u << (kind))
+
+/* Two faults are made in the order of the list. */
+extern const struct fault faults[];
+extern const int fault_count;
+
+void fault_make(struct call *call, const struct fault *fault);
+
+/* The number that a call of a kind returns with a fault at this place and none at an earlier one. */
+uint64_t fault_number(enum place place, enum kind kind);
+
+#endif
