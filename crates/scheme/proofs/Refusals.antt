@@ -1,6 +1,6 @@
 -- Each refusal's small input, and pairs of faults in the order of "Turned away", computed over the stand-ins. Assumes nothing.
---   small-inputs, loads, batches, marks, positions   the column "Small input", the limits that moved, and calls that are accepted
---   lowest                                        the token that code 7 names
+--   small-inputs, loads, batches, marks, positions               the column "Small input", the limits that moved, and calls that are accepted
+--   lowest                                                       the token that code 7 names
 --   in-order, loads-in-order, batches-in-order, marks-in-order   pairs of faults
 use Prim.Native.Nat.{ℕ, zero, suc, _+_, _*_}
 use mathlib.Core.Path.{_≡_, refl}
