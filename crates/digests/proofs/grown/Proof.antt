@@ -2,8 +2,7 @@
 use borrow.Author.Needs.{needs}
 use native.Mathlib.Omega.{arith}
 use mathlib.Core.Path.{_≡_, sym, ap, _∙_}
-use Prim.Native.Nat.{ℕ}
-use lib.ListN.{length, take, length-replicate}
+use lib.ListN.{length, take}
 use lib.Seq.{length-take-le}
 use Rattle.digests.proofs.grown.Statement.{statement}
 use Rattle.digests.proofs.grown.Tie as tie
@@ -20,30 +19,34 @@ slice-aggregate-key-words c = search needs
 key-words-requires : tie.Need-key-words-requires
 key-words-requires c κs = search needs
 
-slice-aggregate-tabulated : tie.Need-slice-aggregate-tabulated
-slice-aggregate-tabulated c = search needs
-
 tabulated-requires : tie.Need-tabulated-requires
 tabulated-requires c κs = search needs
 
 add-pad : tie.Need-add-pad
 add-pad c = search needs
 
+add-pad-2 : tie.Need-add-pad-2
+add-pad-2 c = search needs
+
 pad-requires : tie.Need-pad-requires
 pad-requires c κs = search needs
+
+add-form-of : tie.Need-add-form-of
+add-form-of c = search needs
 
 form-of-requires : tie.Need-form-of-requires
 form-of-requires c κs =
     let padded = c .before in
-    let s = padded .before .before .before .before .before .before .before .before in
-    (omega arith, s .pre .0 .small, sym (pad-long padded) ∙ ap length (padded .pad .ensures .1))
+    let s = padded .before .before .before .before .before .before .before .before .before .before .before .before .before in
+    let lies = s .pre .0 in
+    (omega (arith, lies .lone), lies .small, sym (pad-long padded) ∙ ap length (padded .pad .ensures .1))
 
-array-share-prefix-table : tie.Need-array-share-prefix-table
-array-share-prefix-table c = search needs
+slice-reshare-prefix-grown-in : tie.Need-slice-reshare-prefix-grown-in
+slice-reshare-prefix-grown-in c = search needs
 
 slice-aggregate-grown-in : tie.Need-slice-aggregate-grown-in
 slice-aggregate-grown-in c =
-    let t = c .before .before .before .before .before .before .tabulated .ensures in
+    let t = c .before .before .before .before .before .before .before .before .tabulated .ensures in
     sym (length-take-le _ _ (omega (arith, t .0, t .1)))
 
 array-share-prefix-bytes : tie.Need-array-share-prefix-bytes
@@ -54,21 +57,20 @@ array-share-prefix-bytes c =
 slice-aggregate-grown-in-2 : tie.Need-slice-aggregate-grown-in-2
 slice-aggregate-grown-in-2 c = sym (pad-long (c .before .before .before .before))
 
-slice-aggregate-grown-in-3 : tie.Need-slice-aggregate-grown-in-3
-slice-aggregate-grown-in-3 c = search needs
-
 grown-in-requires : tie.Need-grown-in-requires
-grown-in-requires c κs =
-    let padded = c .before .before .before .before .before in
-    let tabled = padded .before .before .before in
-    let s = tabled .before .before .before .before .before in
-    (s .pre .0, s .pre .1, tabled .tabulated .ensures .2, c .before .before .before .form-of .ensures, padded .pad .ensures .1, length-replicate {A = ℕ} 3072 0)
+grown-in-requires c κs = search needs
+
+same-length : tie.Need-same-length
+same-length c = search needs
+
+same-length-2 : tie.Need-same-length-2
+same-length-2 c = search needs
 
 returns : tie.Need-returns
 returns c =
-    let keyed = c .before .before .before .before .before .before .before .before .before .before .before .before in
-    let s = keyed .before .before .before in
-    c .before .grown-in .ensures (s .args .t1) (keyed .key-words .ensures)
+    let keyed = c .before .before .before .before .before .before .before .before .before .before .before .before .before .before .before in
+    let s = keyed .before .before .before .before .before .before in
+    c .before .before .grown-in .ensures (s .args .t1) (keyed .key-words .ensures)
 
 pub grown-spec : {M : Type 1} → statement M
 grown-spec =
@@ -76,15 +78,17 @@ grown-spec =
     (tie.spec
     slice-aggregate-key-words
     key-words-requires
-    slice-aggregate-tabulated
     tabulated-requires
     add-pad
+    add-pad-2
     pad-requires
+    add-form-of
     form-of-requires
-    array-share-prefix-table
+    slice-reshare-prefix-grown-in
     slice-aggregate-grown-in
     array-share-prefix-bytes
     slice-aggregate-grown-in-2
-    slice-aggregate-grown-in-3
     grown-in-requires
+    same-length
+    same-length-2
     returns)
