@@ -56,6 +56,17 @@ fn mark_of(b: Span, e: u64, marks: &[u8]) -> u8
     marks[(e * b.step) as usize]
 }
 
+// How many bytes are hashed before a block: those of key and index, and its mark where it has one.
+fn head_length(b: Span) -> usize
+    requires { ⌜ b .mark ≤ 1 ⌝ }
+    ensures { λ r. ⌜ r ≡ 36 + b .mark ⌝ }
+{
+    if b.mark == 0 {
+        return 36;
+    }
+    37
+}
+
 // The sum with the hash of the block in a row and a column, at a position.
 fn add_block(
     s: sums::Sum,
@@ -78,7 +89,7 @@ fn add_block(
     let e = place_of(b, row, column);
     let mark = mark_of(b, e, marks);
     let head = tokens::head_of(c, index, mark);
-    let h = 36 + b.mark as usize;
+    let h = head_length(b);
     let a = (e * b.size) as usize;
     sums::add(s, f, &head[..h], blocks, a, b.size as usize, pad, p, at)
 }
@@ -160,10 +171,11 @@ pub fn grown(
 {
     let words = chacha20::key_words(&k);
     let entries = permutation::tabulated(words, b.rows, positions, table);
-    let padding = sha256::pad(36 + b.mark + b.size);
+    let h = head_length(b);
+    let padding = sha256::pad(h as u64 + b.size);
     let bytes = padding.bytes;
     let len = padding.len;
-    let f = sums::form_of(36 + b.mark as usize, b.size as usize, len);
+    let f = sums::form_of(h, b.size as usize, len);
     grown_in(
         words,
         &table[..entries],

@@ -1,7 +1,7 @@
 -- What is hashed is the key, the index, the mark and the block, by hashed-at.
 use borrow.Author.Needs.{needs}
 use native.Mathlib.Omega.{arith}
-use mathlib.Core.Path.{_≡_, refl, sym, ap, subst, _∙_}
+use mathlib.Core.Path.{_≡_, sym, ap, subst, _∙_}
 use Prim.Native.Nat.{ℕ, _+_, _*_, _≤_}
 use lib.ListN.{length, take}
 use lib.Seq.{length-take-le}
@@ -34,37 +34,41 @@ mark-of-requires c κs =
 head-of-requires : tie.Need-head-of-requires
 head-of-requires c κs = search needs
 
-add-h : tie.Need-add-h
-add-h c = search needs
+head-length-requires : tie.Need-head-length-requires
+head-length-requires c κs = c .before .before .before .before .before .before .before .before .pre .2 .lone
 
 mul-a : tie.Need-mul-a
 mul-a c =
-    let placed = c .before .before .before .place-of in
-    let s = c .before .before .before .before .before .before .before .before .before in
+    let placed = c .before .before .before .before .place-of in
+    let s = c .before .before .before .before .before .before .before .before .before .before in
     omega (arith, bytes-few (placed .result) (s .args .b .size) (omega (arith, placed .ensures .1)) (s .pre .2 .small))
 
 array-share-prefix-head : tie.Need-array-share-prefix-head
-array-share-prefix-head c = search needs
+array-share-prefix-head c =
+    let s = c .before .before .before .before .before .before .before .before .before .before in
+    omega (arith, head-long (c .before .before), c .before .head-length .ensures, s .pre .2 .lone)
 
 slice-aggregate-add : tie.Need-slice-aggregate-add
 slice-aggregate-add c =
-    let headed = c .before .before in
+    let headed = c .before .before .before in
     let s = headed .before .before .before .before .before .before .before .before in
-    sym (length-take-le _ _ (omega (arith, head-long headed, s .pre .2 .lone)))
+    sym (length-take-le _ _ (omega (arith, head-long headed, c .before .before .head-length .ensures, s .pre .2 .lone)))
 
 add-requires : tie.Need-add-requires
 add-requires c κs =
-    let headed = c .before .before .before .before in
+    let measured = c .before .before .before .before in
+    let headed = measured .before in
     let placed = headed .before .before in
     let s = placed .before .before .before .before .before .before in
     let a = s .args in
     let p = s .pre in
-    let long : length (take (36 + a .b .mark) (headed .head-of .result)) ≡ 36 + a .b .mark =
-    length-take-le (36 + a .b .mark) (headed .head-of .result) (omega (arith, head-long headed, p .2 .lone)) in (
+    let h = measured .head-length .result in
+    let long : length (take h (headed .head-of .result)) ≡ 36 + a .b .mark =
+    length-take-le h (headed .head-of .result) (omega (arith, head-long headed, measured .head-length .ensures, p .2 .lone)) ∙ measured .head-length .ensures in (
       p .0,
-      subst (λ (h : ℕ). Cut (a .f) h (a .b .size)) (sym long) (p .1),
+      subst (λ (n : ℕ). Cut (a .f) n (a .b .size)) (sym long) (p .1),
       subst (λ (e : ℕ). e * a .b .size + a .b .size ≤ length (a .blocks .now)) (sym (placed .place-of .ensures .0)) (p .2 .inside),
-      p .4 ∙ ap (λ (h : ℕ). padding (h + a .b .size)) (sym long),
+      p .4 ∙ ap (λ (n : ℕ). padding (n + a .b .size)) (sym long),
       p .5,
     )
 
@@ -74,7 +78,8 @@ same-length c = search needs
 returns : tie.Need-returns
 returns c =
     let added = c .before .before in
-    let headed = added .before .before .before .before .before in
+    let measured = added .before .before .before .before .before in
+    let headed = measured .before in
     let marked = headed .before in
     let placed = marked .before in
     let indexed = placed .before in
@@ -82,12 +87,12 @@ returns c =
     let a = s .args in (
       added .add .ensures .0,
       hashed-at (a .c) (headed .head-of .result) (a .blocks .now) (a .marks .now) _ _ (a .b) (a .row .0) (a .j .0) (a .column) (indexed .index-of .result)
-          (placed .place-of .result) (placed .place-of .result * a .b .size) (marked .mark-of .result) (key-long indexed)
+          (placed .place-of .result) (marked .mark-of .result) (measured .head-length .result) (key-long indexed)
           (indexed .index-of .ensures)
           (placed .place-of .ensures .0)
           (marked .mark-of .ensures)
           (headed .head-of .ensures)
-          refl
+          (measured .head-length .ensures)
           (added .add .ensures .1),
     )
 
@@ -99,7 +104,7 @@ add-block-spec =
     place-of-requires
     mark-of-requires
     head-of-requires
-    add-h
+    head-length-requires
     mul-a
     array-share-prefix-head
     slice-aggregate-add

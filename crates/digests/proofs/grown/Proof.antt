@@ -1,9 +1,12 @@
 -- The padding is lent as far as it goes; the table is empty or has all values of the round function.
 use borrow.Author.Needs.{needs}
 use native.Mathlib.Omega.{arith}
-use mathlib.Core.Path.{_≡_, sym, ap, _∙_}
+use mathlib.Core.Path.{_≡_, sym, ap, subst, _∙_}
+use Prim.Native.Nat.{ℕ, _+_}
 use lib.ListN.{length, take}
 use lib.Seq.{length-take-le}
+use Rattle.sha256.specs.Sha256.{padding}
+use Rattle.sums.specs.Waiting.{Cut}
 use Rattle.digests.proofs.grown.Statement.{statement}
 use Rattle.digests.proofs.grown.Tie as tie
 
@@ -22,24 +25,25 @@ key-words-requires c κs = search needs
 tabulated-requires : tie.Need-tabulated-requires
 tabulated-requires c κs = search needs
 
-add-pad : tie.Need-add-pad
-add-pad c = search needs
+head-length-requires : tie.Need-head-length-requires
+head-length-requires c κs = c .before .before .before .before .before .before .before .before .before .before .pre .0 .lone
 
-add-pad-2 : tie.Need-add-pad-2
-add-pad-2 c = search needs
+add-pad : tie.Need-add-pad
+add-pad c =
+    let s = c .before .before .before .before .before .before .before .before .before .before .before .before in
+    omega (arith, c .before .head-length .ensures, s .pre .0 .lone, s .pre .0 .small)
 
 pad-requires : tie.Need-pad-requires
-pad-requires c κs = search needs
-
-add-form-of : tie.Need-add-form-of
-add-form-of c = search needs
+pad-requires c κs =
+    let s = c .before .before .before .before .before .before .before .before .before .before .before .before in
+    omega (arith, c .before .head-length .ensures, s .pre .0 .lone, s .pre .0 .small)
 
 form-of-requires : tie.Need-form-of-requires
 form-of-requires c κs =
     let padded = c .before in
     let s = padded .before .before .before .before .before .before .before .before .before .before .before .before .before in
     let lies = s .pre .0 in
-    (omega (arith, lies .lone), lies .small, sym (pad-long padded) ∙ ap length (padded .pad .ensures .1))
+    (omega (arith, padded .before .before .head-length .ensures, lies .lone), lies .small, sym (pad-long padded) ∙ ap length (padded .pad .ensures .1))
 
 slice-reshare-prefix-grown-in : tie.Need-slice-reshare-prefix-grown-in
 slice-reshare-prefix-grown-in c = search needs
@@ -58,7 +62,20 @@ slice-aggregate-grown-in-2 : tie.Need-slice-aggregate-grown-in-2
 slice-aggregate-grown-in-2 c = sym (pad-long (c .before .before .before .before))
 
 grown-in-requires : tie.Need-grown-in-requires
-grown-in-requires c κs = search needs
+grown-in-requires c κs =
+    let padded = c .before .before .before .before .before in
+    let measured = padded .before .before in
+    let tabled = measured .before .before .before in
+    let s = tabled .before .before .before .before .before .before .before .before in
+    let a = s .args in
+    let l = measured .head-length .ensures in (
+      s .pre .0,
+      s .pre .1,
+      tabled .tabulated .ensures .2,
+      subst (λ (h : ℕ). Cut (c .before .before .before .form-of .result) h (a .b .size)) l (c .before .before .before .form-of .ensures),
+      padded .pad .ensures .1 ∙ ap (λ (h : ℕ). padding (h + a .b .size)) l,
+      s .pre .3,
+    )
 
 same-length : tie.Need-same-length
 same-length c = search needs
@@ -79,10 +96,9 @@ grown-spec =
     slice-aggregate-key-words
     key-words-requires
     tabulated-requires
+    head-length-requires
     add-pad
-    add-pad-2
     pad-requires
-    add-form-of
     form-of-requires
     slice-reshare-prefix-grown-in
     slice-aggregate-grown-in
