@@ -1,5 +1,5 @@
 -- The block changes of a change by its kind, as the arms of the code have them. Assumes nothing.
---   cut-long                                 the length of a byte repeated, cut short
+--   zeros-long                               the length of zeros cut short
 --   Works                                    what the block changes of a kind are to the scheme's
 --   update-works .. batch-works              each kind's
 --   blocks-after                             the number of blocks after a change of any kind
@@ -39,9 +39,9 @@ use Rattle.changes.specs.declared.Kind.{Kind}
 use Rattle.changes.specs.declared.Kind.the-variants.{Update, Delete, Append, Load, Batch}
 use Rattle.changes.specs.Edits.{editOf, workWith, workFor, blocksWith, Taken}
 
--- a byte repeated, cut short
-pub cut-long : (n k x : ℕ) → n ≤ k → n ≡ length (take n (replicate {A = ℕ} k x))
-cut-long n k x h = sym (ap length (take-replicate n k x h) ∙ length-replicate n x)
+-- zeros cut short
+pub zeros-long : (n k : ℕ) → n ≤ k → n ≡ length (take n (replicate {A = ℕ} k 0))
+zeros-long n k h = sym (ap length (take-replicate n k 0 h) ∙ length-replicate n 0)
 
 -- one block change
 one-item : (f : ℕ → ℕ × Change) → itemsBelow 1 f ≡ f 0 ∷ []
@@ -201,7 +201,7 @@ module _ (c : Card) (m : ℕ) (old mark new : List ℕ) where
       let q = both (eqb (length old) B) (eqb (length mark) (marksIn (c .version))) (t .handed) in
       replaced-works c m (delete m old mark) mark old (deleted (c .version)) (take B (replicate 4096 0)) t (w .0) (w .1)
       (omega (arith, eqb-true (length mark) (marksIn (c .version)) (q .1), marks-few (c .version)))
-      (eqb-true (length old) B (q .0)) (deleted-few (c .version)) (sym (cut-long B 4096 0 (t .small)))
+      (eqb-true (length old) B (q .0)) (deleted-few (c .version)) (sym (zeros-long B 4096 (t .small)))
       (ap (λ (z : List ℕ). (m, replaced (mark ++ old) (deleted (c .version) ++ z)) ∷ []) (take-replicate B 4096 0 (t .small))) refl
 
   of-append : Taken c (append new)

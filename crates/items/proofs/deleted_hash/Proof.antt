@@ -2,9 +2,10 @@
 use borrow.Author.Needs.{needs}
 use native.Mathlib.Omega.{arith}
 use Prim.Native.Nat.{ℕ, _≤_}
-use mathlib.Core.Path.{_≡_, sym, ap, ap₂, _∙_}
+use mathlib.Core.Path.{_≡_, refl, sym, ap, ap₂, _∙_}
 use mathlib.Core.List.{List, _++_}
 use lib.ListN.{length, take, replicate, length-replicate}
+use lib.Seq.{length-take-le}
 use Rattle.octets.proofs.ListLaws.{take-replicate}
 use Rattle.scheme.specs.Tokens.{blockHash}
 use Rattle.standard.specs.Standard.{standard}
@@ -12,8 +13,12 @@ use Rattle.items.proofs.ContentLaws.{deleted-mark}
 use Rattle.items.proofs.deleted_hash.Statement.{statement}
 use Rattle.items.proofs.deleted_hash.Tie as tie
 
-cut-long : (n k x : ℕ) → n ≤ k → length (take n (replicate {A = ℕ} k x)) ≡ n
-cut-long n k x h = ap length (take-replicate n k x h) ∙ length-replicate n x
+-- zeros, and a list of one byte, cut short
+zeros-long : (n : ℕ) → n ≤ 4096 → length (take n (replicate {A = ℕ} 4096 0)) ≡ n
+zeros-long n h = ap length (take-replicate n 4096 0 h) ∙ length-replicate n 0
+
+mark-few : (n : ℕ) (xs : List ℕ) → length xs ≡ 1 → n ≤ 1 → length (take n xs) ≤ 1
+mark-few n xs l h = omega (arith, length-take-le n xs (omega arith))
 
 marks-in-requires : tie.Need-marks-in-requires
 marks-in-requires c κs = search needs
@@ -24,7 +29,7 @@ array-share-prefix-gone c = search needs
 slice-aggregate-block-hash : tie.Need-slice-aggregate-block-hash
 slice-aggregate-block-hash c =
     let counted = c .before .marks-in in
-    sym (cut-long (counted .result) 1 1 (counted .ensures .1))
+    sym (length-take-le (counted .result) _ (counted .ensures .1))
 
 array-share-prefix-zeros : tie.Need-array-share-prefix-zeros
 array-share-prefix-zeros c = search needs
@@ -32,13 +37,13 @@ array-share-prefix-zeros c = search needs
 slice-aggregate-block-hash-2 : tie.Need-slice-aggregate-block-hash-2
 slice-aggregate-block-hash-2 c =
     let s = c .before .before .before in
-    sym (cut-long (s .args .size) 4096 0 (s .pre))
+    sym (zeros-long (s .args .size) (s .pre))
 
 block-hash-requires : tie.Need-block-hash-requires
 block-hash-requires c κs =
     let counted = c .before .before .marks-in in
     let s = c .before .before .before in
-    (omega (arith, cut-long (counted .result) 1 1 (counted .ensures .1), counted .ensures .1), omega (arith, cut-long (s .args .size) 4096 0 (s .pre), s .pre))
+    (mark-few (counted .result) _ refl (counted .ensures .1), omega (arith, zeros-long (s .args .size) (s .pre), s .pre))
 
 returns : tie.Need-returns
 returns c =
