@@ -28,7 +28,7 @@ static struct pair pair_of(const struct row *row)
 {
     struct pair pair = {
         .B = row->B, .d = row->d, .r = row->r, .t = row->t, .n = row->d, .goal = row->goal, .others = (unsigned)row->items};
-    struct file file = file_set_up(row->B, row->d, row->r, row->t, row->d);
+    struct file file = file_set_up(LEGBARO_WITHOUT_MARKS, row->B, row->d, row->r, row->t, row->d);
     pair.call = file_batch_call(&file, row->items);
     make_updates(&file, &pair.call.lent[ITEMS]);
     pair.other = file_call(&file, UPDATE);

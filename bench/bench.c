@@ -17,6 +17,7 @@
 #include "groups.h"
 #include "helper.h"
 #include "loads.h"
+#include "proofs.h"
 #include "second.h"
 #include "times.h"
 
@@ -32,77 +33,65 @@ enum { SEED = 20261115 };
 struct measure {
     const char *title; /* begins a table */
     enum kind kind;
-    uint64_t B, d, r, t, n;
+    uint64_t version, B, d, r, t, n;
 };
 
 enum { T_SET_UP = 4, T_UPDATE = 64, T_LOAD = 4, T_BATCH = 8 };
 
 /* Set-up and proof at one size. */
-#define BOTH(title, B, d, r) {title, SET_UP, B, d, r, T_SET_UP, d}, {NULL, PROVE, B, d, r, 1, d}
+#define BOTH(title, version, B, d, r) {title, SET_UP, version, B, d, r, T_SET_UP, d}, {NULL, PROVE, version, B, d, r, 1, d}
 
 static const struct measure measures[] = {
-    BOTH("Set-up and proof", 64, 4096, 64),
-    BOTH(NULL, 64, 4096, 460),
-    BOTH(NULL, 1024, 4096, 64),
-    BOTH(NULL, 1024, 4096, 460),
-    BOTH(NULL, 4096, 4096, 64),
-    BOTH(NULL, 4096, 4096, 460),
-    BOTH(NULL, 1024, 5000, 460),
-    {"Update", UPDATE, 64, 4096, 64, T_UPDATE, 4096},
-    {NULL, UPDATE, 64, 5000, 64, T_UPDATE, 5000},
-    {NULL, UPDATE, 1024, 4096, 64, T_UPDATE, 4096},
-    {NULL, UPDATE, 4096, 4096, 64, T_UPDATE, 4096},
-    {NULL, UPDATE, 4096, 4096, 460, T_UPDATE, 4096},
-    {"Load of n blocks", LOAD, 64, 4096, 64, T_LOAD, 16},
-    {NULL, LOAD, 64, 4096, 64, T_LOAD, 63},
-    {NULL, LOAD, 64, 4096, 64, T_LOAD, 64},
-    {NULL, LOAD, 64, 4096, 64, T_LOAD, 256},
-    {NULL, LOAD, 1024, 5000, 460, T_LOAD, 459},
-    {NULL, LOAD, 1024, 5000, 460, T_LOAD, 460},
-    {"Batch of n items", BATCH, 64, 4096, 64, T_BATCH, 1},
-    {NULL, BATCH, 64, 4096, 64, T_BATCH, 12},
-    {NULL, BATCH, 64, 4096, 64, T_BATCH, 64},
-    {NULL, BATCH, 1024, 5000, 460, T_BATCH, 12},
-    {NULL, BATCH, 1024, 5000, 460, T_BATCH, 64},
-    {"Growth with t, the tokens", SET_UP, 64, 4096, 64, 4, 4096},
-    {NULL, SET_UP, 64, 4096, 64, 64, 4096},
-    {NULL, UPDATE, 64, 4096, 64, 16, 4096},
-    {NULL, UPDATE, 64, 4096, 64, 256, 4096},
-    {"Growth with r, the positions", PROVE, 64, 4096, 16, 1, 4096},
-    {NULL, PROVE, 64, 4096, 64, 1, 4096},
-    {NULL, PROVE, 64, 4096, 256, 1, 4096},
-    {"Growth with B, the bytes in a block", PROVE, 16, 4096, 64, 1, 4096},
-    {NULL, PROVE, 256, 4096, 64, 1, 4096},
-    {NULL, PROVE, 4096, 4096, 64, 1, 4096},
-    {"Growth with n/d, the columns", PROVE, 1024, 4096, 64, 1, 4096},
-    {NULL, PROVE, 1024, 4096, 64, 1, 6144},
-    {NULL, PROVE, 1024, 4096, 64, 1, 40960},
+    BOTH("Set-up and proof", 1, 64, 4096, 64),
+    BOTH(NULL, 1, 64, 4096, 460),
+    BOTH(NULL, 1, 1024, 4096, 64),
+    BOTH(NULL, 1, 1024, 4096, 460),
+    BOTH(NULL, 1, 4096, 4096, 64),
+    BOTH(NULL, 1, 4096, 4096, 460),
+    BOTH(NULL, 1, 1024, 5000, 460),
+    {"Update", UPDATE, 1, 64, 4096, 64, T_UPDATE, 4096},
+    {NULL, UPDATE, 1, 64, 5000, 64, T_UPDATE, 5000},
+    {NULL, UPDATE, 1, 1024, 4096, 64, T_UPDATE, 4096},
+    {NULL, UPDATE, 1, 4096, 4096, 64, T_UPDATE, 4096},
+    {NULL, UPDATE, 1, 4096, 4096, 460, T_UPDATE, 4096},
+    {"Load of n blocks", LOAD, 1, 64, 4096, 64, T_LOAD, 16},
+    {NULL, LOAD, 1, 64, 4096, 64, T_LOAD, 63},
+    {NULL, LOAD, 1, 64, 4096, 64, T_LOAD, 64},
+    {NULL, LOAD, 1, 64, 4096, 64, T_LOAD, 256},
+    {NULL, LOAD, 1, 1024, 5000, 460, T_LOAD, 459},
+    {NULL, LOAD, 1, 1024, 5000, 460, T_LOAD, 460},
+    {"Batch of n items", BATCH, 1, 64, 4096, 64, T_BATCH, 1},
+    {NULL, BATCH, 1, 64, 4096, 64, T_BATCH, 12},
+    {NULL, BATCH, 1, 64, 4096, 64, T_BATCH, 64},
+    {NULL, BATCH, 1, 1024, 5000, 460, T_BATCH, 12},
+    {NULL, BATCH, 1, 1024, 5000, 460, T_BATCH, 64},
+    {"Growth with t, the tokens", SET_UP, 1, 64, 4096, 64, 4, 4096},
+    {NULL, SET_UP, 1, 64, 4096, 64, 64, 4096},
+    {NULL, UPDATE, 1, 64, 4096, 64, 16, 4096},
+    {NULL, UPDATE, 1, 64, 4096, 64, 256, 4096},
+    {"Growth with r, the positions", PROVE, 1, 64, 4096, 16, 1, 4096},
+    {NULL, PROVE, 1, 64, 4096, 64, 1, 4096},
+    {NULL, PROVE, 1, 64, 4096, 256, 1, 4096},
+    {"Growth with B, the bytes in a block", PROVE, 1, 16, 4096, 64, 1, 4096},
+    {NULL, PROVE, 1, 256, 4096, 64, 1, 4096},
+    {NULL, PROVE, 1, 4096, 4096, 64, 1, 4096},
+    {"Growth with n/d, the columns", PROVE, 1, 1024, 4096, 64, 1, 4096},
+    {NULL, PROVE, 1, 1024, 4096, 64, 1, 6144},
+    {NULL, PROVE, 1, 1024, 4096, 64, 1, 40960},
+    BOTH("Version 2", 2, 64, 4096, 64),
+    BOTH(NULL, 2, 1024, 5000, 460),
+    {NULL, UPDATE, 2, 64, 4096, 64, T_UPDATE, 4096},
+    {NULL, UPDATE, 2, 1024, 4096, 64, T_UPDATE, 4096},
+    {NULL, LOAD, 2, 1024, 5000, 460, T_LOAD, 460},
+    {NULL, BATCH, 2, 1024, 5000, 460, T_BATCH, 64},
 };
 
 enum { MEASURES = sizeof measures / sizeof *measures };
 
-/* A proof of n blocks, which need not be those of the file that the message is drawn from. */
-static struct call proof_call(const struct measure *m)
-{
-    struct file file = file_set_up(m->B, m->d, m->r, m->t, m->d);
-    buffer_put_number(&file.card, LEGBARO_CARD_BLOCKS, 4, m->n);
-    struct call draw = file_call(&file, DRAW);
-    call_expect(&draw, LEGBARO_OK, "accepted");
-    struct call proof = {.kind = PROVE};
-    proof.lent[MESSAGE] = buffer_copy(&draw.lent[MESSAGE]);
-    proof.lent[BLOCKS] = buffer_blank(m->n * m->B);
-    chance_bytes(proof.lent[BLOCKS].bytes, proof.lent[BLOCKS].length);
-    proof.lent[TABLE] = buffer_copy(&file.table);
-    proof.lent[REPLY] = buffer_blank(LEGBARO_REPLY_BYTES);
-    call_free(&draw);
-    file_end(&file);
-    return proof;
-}
-
 /* An update, a load of n blocks, or a batch of n items. */
 static struct call change_call(const struct measure *m)
 {
-    struct file file = file_set_up(m->B, m->d, m->r, m->t, m->d);
+    struct file file = file_set_up(m->version, m->B, m->d, m->r, m->t, m->d);
     struct call change = m->kind == LOAD    ? file_load_call(&file, m->n)
                          : m->kind == BATCH ? file_batch_call(&file, m->n)
                                             : file_call(&file, UPDATE);
@@ -115,8 +104,8 @@ static struct call change_call(const struct measure *m)
 static struct call measured_call(const struct measure *m)
 {
     if (m->kind == SET_UP)
-        return file_set_up_call(m->B, m->d, m->r, m->t, m->d);
-    return m->kind == PROVE ? proof_call(m) : change_call(m);
+        return file_set_up_call(m->version, m->B, m->d, m->r, m->t, m->d);
+    return m->kind == PROVE ? proof_call(m->version, m->B, m->d, m->r, m->n) : change_call(m);
 }
 
 /* ---- Time ---- */
@@ -225,6 +214,7 @@ static void print_tables(const char *program, int only_beside)
         print_measures(program);
     print_loads();
     print_batches();
+    print_proofs();
     putchar('\n');
     group_end();
 }
@@ -243,7 +233,7 @@ static void print_whole(const char *way, uint64_t (*run)(struct call *), const s
 
 static void print_headline(void)
 {
-    struct call call = file_set_up_call(4096, 4096, 512, 11680, 4096), before = {.kind = SET_UP};
+    struct call call = file_set_up_call(LEGBARO_WITHOUT_MARKS, 4096, 4096, 512, 11680, 4096), before = {.kind = SET_UP};
     group_begin("the great set-up writes the same each way");
     print_processor();
     puts("set-up of 11680 tokens, r = 512, B = 4096, d = 4096");

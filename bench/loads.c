@@ -23,10 +23,10 @@ static const struct row {
 static struct pair pair_of(const struct row *row)
 {
     struct pair pair = {.B = row->B, .d = row->d, .r = row->r, .t = row->t, .n = row->d, .goal = row->goal};
-    struct file file = file_set_up(row->B, row->d, row->r, row->t, row->d);
+    struct file file = file_set_up(LEGBARO_WITHOUT_MARKS, row->B, row->d, row->r, row->t, row->d);
     int set_up = row->beside == SET_UP;
     pair.call = file_load_call(&file, row->blocks);
-    pair.other = set_up ? file_set_up_call(row->B, row->d, row->r, row->t, row->blocks) : file_call(&file, APPEND);
+    pair.other = set_up ? file_set_up_call(LEGBARO_WITHOUT_MARKS, row->B, row->d, row->r, row->t, row->blocks) : file_call(&file, APPEND);
     pair.others = set_up ? 1 : (unsigned)row->blocks;
     snprintf(pair.one, sizeof pair.one, "%u blocks", (unsigned)row->blocks);
     snprintf(pair.beside, sizeof pair.beside, set_up ? "a set-up" : "%u appends", (unsigned)row->blocks);

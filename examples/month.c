@@ -27,7 +27,7 @@ static uint64_t planned(void)
 
 static void set_up(uint64_t positions)
 {
-    struct plan plan = {"carpark2", BAYS, ROWS, positions, TOKENS};
+    struct plan plan = {"carpark2", LEGBARO_WITH_MARKS, BAYS, ROWS, positions, TOKENS};
     struct bytes week = samples(BAYS, 0, A_WEEK);
     owner_begins(week);
     free(week.at);

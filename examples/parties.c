@@ -19,25 +19,48 @@ uint64_t in_card(size_t at, unsigned width)
 
 /* ---- The host ---- */
 
-/* Gives out a block; puts a block in the place of another. */
-static void host_sends(uint64_t number, struct bytes block)
+/* Gives out a block, and its mark where the file has marks. */
+static void host_sends(uint64_t number, struct bytes block, struct bytes mark)
 {
     read_part("host/blocks", (number - 1) * block.length, block);
+    if (mark.length)
+        read_part("host/marks", number - 1, mark);
 }
 
-static void host_replaces(uint64_t number, struct bytes block)
+/* Puts a block in the place of another, with its mark. */
+static void host_replaces(uint64_t number, struct bytes block, uint8_t mark)
 {
+    struct bytes marks = {&mark, 1};
     write_part("host/blocks", (number - 1) * block.length, block);
+    if (is_there("host/marks"))
+        write_part("host/marks", number - 1, marks);
+}
+
+/* Puts live blocks behind the last. */
+static void host_adds(struct bytes blocks, size_t block_bytes)
+{
+    struct bytes live = room(blocks.length / block_bytes);
+    add_to_file("host/blocks", LENT(blocks));
+    if (is_there("host/marks"))
+        add_to_file("host/marks", LENT(live));
+    free(live.at);
+}
+
+/* The marks of all blocks; none in a file of version 1. */
+static struct bytes host_marks(void)
+{
+    return is_there("host/marks") ? read_file("host/marks") : room(0);
 }
 
 uint64_t host_proves(void)
 {
     struct bytes message = read_file("host/message"), blocks = read_file("host/blocks"), table = read_file("host/table");
-    struct bytes reply = room(LEGBARO_REPLY_BYTES);
-    uint64_t result = legbaro_prove(LENT(message), LENT(blocks), LENT(table), LENT(reply));
+    struct bytes marks = host_marks(), reply = room(LEGBARO_REPLY_BYTES);
+    uint64_t result = legbaro_prove(LENT(message), LENT(blocks), LENT(marks), LENT(table), LENT(reply));
     write_file("host/reply", LENT(reply));
     free(message.at);
     free(blocks.at);
+    free(marks.at);
     free(table.at);
     free(reply.at);
     return result;
@@ -55,14 +78,17 @@ uint64_t owner_sets_up(const struct plan *plan)
 {
     struct bytes master = read_file("owner/master"), blocks = read_file("owner/blocks");
     struct bytes card = room(LEGBARO_CARD_BYTES), table = room(plan->tokens * LEGBARO_RECORD_BYTES);
-    uint64_t result = legbaro_set_up(LENT(master), (const uint8_t *)plan->id, LEGBARO_ID_BYTES, plan->block_bytes, plan->rows,
-                                     plan->positions, plan->tokens, blocks.length / plan->block_bytes, LENT(blocks), LENT(card),
-                                     LENT(table));
+    struct bytes live = room(blocks.length / plan->block_bytes);
+    uint64_t result = legbaro_set_up(LENT(master), (const uint8_t *)plan->id, LEGBARO_ID_BYTES, plan->version, plan->block_bytes,
+                                     plan->rows, plan->positions, plan->tokens, live.length, LENT(blocks), LENT(card), LENT(table));
     if (result == LEGBARO_OK) {
         write_file("owner/card", LENT(card));
         write_file("host/table", LENT(table));
         write_file("host/blocks", LENT(blocks));
+        if (plan->version == LEGBARO_WITH_MARKS)
+            write_file("host/marks", LENT(live));
     }
+    free(live.at);
     free(master.at);
     free(blocks.at);
     free(card.at);
@@ -118,7 +144,7 @@ static uint64_t owner_adds(adding *call, struct bytes blocks)
     struct hand hand = owner_takes();
     uint64_t result = call(LENT(hand.master), LENT(hand.card), LENT(hand.table), LENT(blocks));
     if (result == LEGBARO_OK)
-        add_to_file("host/blocks", LENT(blocks));
+        host_adds(blocks, in_card(LEGBARO_CARD_BLOCK_BYTES, 2));
     owner_puts_back(&hand, result);
     return result;
 }
@@ -133,16 +159,24 @@ uint64_t owner_loads(struct bytes blocks)
     return owner_adds(legbaro_load, blocks);
 }
 
+/* Room for a mark of the file; none in version 1. */
+static struct bytes room_for_mark(void)
+{
+    return room(in_card(LEGBARO_CARD_VERSION, 1) == LEGBARO_WITH_MARKS ? 1 : 0);
+}
+
 uint64_t owner_updates(uint64_t number, struct bytes block)
 {
     struct hand hand = owner_takes();
-    struct bytes old = room(block.length);
-    host_sends(number, old);
-    uint64_t result = legbaro_update(LENT(hand.master), LENT(hand.card), LENT(hand.table), number, LENT(old), LENT(block));
+    struct bytes old = room(block.length), mark = room_for_mark();
+    host_sends(number, old, mark);
+    uint64_t result =
+        legbaro_update(LENT(hand.master), LENT(hand.card), LENT(hand.table), number, LENT(old), LENT(mark), LENT(block));
     if (result == LEGBARO_OK)
-        host_replaces(number, block);
+        host_replaces(number, block, LEGBARO_LIVE);
     owner_puts_back(&hand, result);
     free(old.at);
+    free(mark.at);
     return result;
 }
 
@@ -150,27 +184,29 @@ uint64_t owner_deletes(uint64_t number)
 {
     struct hand hand = owner_takes();
     size_t block_bytes = in_card(LEGBARO_CARD_BLOCK_BYTES, 2);
-    struct bytes old = room(block_bytes), zeros = room(block_bytes);
-    host_sends(number, old);
-    uint64_t result = legbaro_delete(LENT(hand.master), LENT(hand.card), LENT(hand.table), number, LENT(old));
+    struct bytes old = room(block_bytes), zeros = room(block_bytes), mark = room_for_mark();
+    host_sends(number, old, mark);
+    uint64_t result = legbaro_delete(LENT(hand.master), LENT(hand.card), LENT(hand.table), number, LENT(old), LENT(mark));
     if (result == LEGBARO_OK)
-        host_replaces(number, zeros);
+        host_replaces(number, zeros, LEGBARO_DELETED);
     owner_puts_back(&hand, result);
     free(old.at);
     free(zeros.at);
+    free(mark.at);
     return result;
 }
 
-/* Writes one item of a batch; the old block comes from the host. */
-static void write_item(uint8_t *item, const struct correction *correction, size_t block_bytes)
+/* Writes one item of a batch, for a version and so many block bytes; the old block and its mark come from the host. */
+static void write_item(uint8_t *item, const struct correction *correction, uint64_t version, size_t block_bytes)
 {
     struct bytes old = {item + LEGBARO_ITEM_OLD, block_bytes};
+    struct bytes mark = {item + LEGBARO_ITEM_MARK(block_bytes), version == LEGBARO_WITH_MARKS ? 1 : 0};
     item[LEGBARO_ITEM_KIND] = correction->block.at ? LEGBARO_ITEM_UPDATE : LEGBARO_ITEM_DELETE;
     for (int i = 0; i < 4; i++)
         item[LEGBARO_ITEM_BLOCK + i] = (uint8_t)(correction->number >> (24 - 8 * i));
-    host_sends(correction->number, old);
+    host_sends(correction->number, old, mark);
     if (correction->block.at)
-        memcpy(item + LEGBARO_ITEM_NEW(block_bytes), correction->block.at, block_bytes);
+        memcpy(item + LEGBARO_ITEM_NEW(version, block_bytes), correction->block.at, block_bytes);
 }
 
 /* Puts zero bytes in the place of the blocks that are deleted, and the new blocks in the place of the others. */
@@ -178,17 +214,21 @@ static void host_corrects(const struct correction *corrections, size_t count, si
 {
     struct bytes zeros = room(block_bytes);
     for (size_t i = 0; i < count; i++)
-        host_replaces(corrections[i].number, corrections[i].block.at ? corrections[i].block : zeros);
+        if (corrections[i].block.at)
+            host_replaces(corrections[i].number, corrections[i].block, LEGBARO_LIVE);
+        else
+            host_replaces(corrections[i].number, zeros, LEGBARO_DELETED);
     free(zeros.at);
 }
 
 uint64_t owner_corrects(const struct correction *corrections, size_t count)
 {
     struct hand hand = owner_takes();
-    size_t block_bytes = in_card(LEGBARO_CARD_BLOCK_BYTES, 2), item_bytes = LEGBARO_ITEM_BYTES(block_bytes);
+    uint64_t version = in_card(LEGBARO_CARD_VERSION, 1);
+    size_t block_bytes = in_card(LEGBARO_CARD_BLOCK_BYTES, 2), item_bytes = LEGBARO_ITEM_BYTES(version, block_bytes);
     struct bytes items = room(count * item_bytes);
     for (size_t i = 0; i < count; i++)
-        write_item(items.at + i * item_bytes, &corrections[i], block_bytes);
+        write_item(items.at + i * item_bytes, &corrections[i], version, block_bytes);
     uint64_t result = legbaro_batch(LENT(hand.master), LENT(hand.card), LENT(hand.table), LENT(items));
     if (result == LEGBARO_OK)
         host_corrects(corrections, count, block_bytes);

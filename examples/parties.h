@@ -11,13 +11,13 @@
 /* What a file is planned for. */
 struct plan {
     const char *id; /* LEGBARO_ID_BYTES letters */
-    uint64_t block_bytes, rows, positions, tokens;
+    uint64_t version, block_bytes, rows, positions, tokens;
 };
 
 /* Gives the owner its key and the first blocks. */
 void owner_begins(struct bytes blocks);
 
-/* Makes card and table from these blocks, and sends table and blocks to the host. */
+/* Makes card and table from these blocks, and sends table and blocks to the host, and in version 2 a mark for each block. */
 uint64_t owner_sets_up(const struct plan *plan);
 
 /* Fetches the table's records from a token's on into the owner's copy of the table; the whole table with 1. A change fetches it all where
@@ -28,7 +28,7 @@ void owner_fetches(uint64_t token);
 uint64_t owner_appends(struct bytes block);
 uint64_t owner_loads(struct bytes blocks);
 
-/* Fetches a block, and puts another or zero bytes in its place; the host does the same. */
+/* Fetches a block and its mark, and puts another or zero bytes in its place; the host does the same, and keeps the mark. */
 uint64_t owner_updates(uint64_t number, struct bytes block);
 uint64_t owner_deletes(uint64_t number);
 
@@ -45,7 +45,7 @@ uint64_t owner_corrects(const struct correction *corrections, size_t count);
 uint64_t owner_draws(void);
 uint64_t owner_judges(void);
 
-/* Answers the message. The host has nothing but the message, its blocks and its table. */
+/* Answers the message. The host has nothing but the message, its blocks, their marks and its table. */
 uint64_t host_proves(void);
 
 /* A number of the owner's card, at its offset of LEGBARO_CARD_.., with so many bytes. */

@@ -32,6 +32,7 @@ void tell(const char *step, uint64_t result, uint64_t expected)
         [LEGBARO_REJECTED] = "REJECTED",
         [LEGBARO_NOT_WHOLE_BLOCKS] = "turned away: these are not whole blocks",
         [LEGBARO_TOO_MANY_POSITIONS] = "turned away: more than 512 positions",
+        [LEGBARO_BAD_MARK] = "turned away: no mark of a block",
         [LEGBARO_BAD_BATCH] = "turned away: these items are no batch",
     };
     printf("  %-56s %s\n", step, results[LEGBARO_CODE(result)]);
@@ -48,7 +49,7 @@ int surprises(void)
 
 void tell_files(const char *party)
 {
-    static const char *const names[] = {"master", "card", "blocks", "table"};
+    static const char *const names[] = {"master", "card", "blocks", "marks", "table"};
     char name[32];
     printf("  the %s holds:", party);
     for (size_t i = 0; i < sizeof names / sizeof *names; i++) {

@@ -1,6 +1,6 @@
 /*
  * One file's week: a car park's occupancy samples go to a storage host, one block a tick, a morning's corrections go there together, and
- * the host is audited. Then a new centre, which sends a month together.
+ * the host is audited. Then a new centre, which sends a month together, and one with closed days.
  *
  * Owner and host are two folders of real files in a temporary folder: parties.h. The program ends with status 0 where every step came out
  * as a planner expects it.
@@ -19,16 +19,17 @@ enum { BAYS = 96, ROWS = A_WEEK, POSITIONS = ROWS, TOKENS = 5 };
 
 static void set_up(void)
 {
-    static const struct plan plan = {"carpark1", BAYS, ROWS, POSITIONS, TOKENS};
+    static const struct plan plan = {"carpark1", LEGBARO_WITH_MARKS, BAYS, ROWS, POSITIONS, TOKENS};
     struct bytes blocks = samples(BAYS, 0, ROWS);
     owner_begins(blocks);
     free(blocks.at);
     puts("SET-UP");
     printf("  A car park has %d bays and sends a sample an hour: one block of %d bytes.\n", BAYS, BAYS);
     printf("  Last week's %d samples are the first blocks, one for each of %d rows.\n", ROWS, ROWS);
+    puts("  The file is of version 2: each block has a mark beside it, which says whether the block is live or deleted.");
     printf("  %d tokens are made, each over all rows, and sealed in a table: enough for %d audits.\n", TOKENS, TOKENS);
     tell_files("owner");
-    tell("the owner sets up the file, and sends blocks and table:", owner_sets_up(&plan), LEGBARO_OK);
+    tell("the owner sets up the file, and sends all to the host:", owner_sets_up(&plan), LEGBARO_OK);
     wipe("owner/blocks");
     puts("  The owner's copy of the blocks is wiped.");
     tell_files("owner");
@@ -63,7 +64,7 @@ static void changes(void)
     tell("update:", owner_updates(STUCK, corrected), LEGBARO_OK);
     free(corrected.at);
     day("Thursday", 3);
-    printf("  Block %d may no longer be kept: zero bytes take its place.\n", EXPIRED);
+    printf("  Block %d may no longer be kept: zero bytes take its place, and its mark says so.\n", EXPIRED);
     tell("deletion:", owner_deletes(EXPIRED), LEGBARO_OK);
     day("Friday", 4);
     day("Saturday", 5);
@@ -164,6 +165,7 @@ int main(void)
         stop("make", folder);
     first_centre();
     new_centre();
+    closed_days();
     if (chdir("/") != 0 || rmdir(folder) != 0)
         stop("remove", folder);
     printf("\n%s\n", surprises() ? "Some steps did not come out as expected." : "Every step came out as expected.");

@@ -1,11 +1,12 @@
 /*
  * Legbaro: provable data possession of a car park's tick file.
  *
- * The owner keeps a 32-byte master key and a 43-byte card. The host keeps the file's blocks and a table of sealed tokens.
+ * The owner keeps a 32-byte master key and a 43-byte card. The host keeps the file's blocks, the marks of blocks where the file has marks,
+ * and a table of sealed tokens.
  *
  *   set up    the owner cuts the file into n blocks and gets a card and a table; blocks and table go to the host
- *   change    the owner fetches the table (and the blocks that change), updates, deletes, appends, loads or does several updates and
- *             deletions in one batch, and sends the table back
+ *   change    the owner fetches the table (and the blocks that change, with their marks), updates, deletes, appends, loads or does several
+ *             updates and deletions in one batch, and sends the table back
  *   audit     the owner draws a message and sends it; the host proves, with a reply; the owner judges the reply
  *
  * A block has B bytes. Blocks are numbered from 1 and lie in d rows: block m in row ((m-1) mod d) + 1, column (m-1) div d.
@@ -14,6 +15,13 @@
  * The rows are planned: d is fixed at set-up, and n, the number of blocks, may be less than d, d or more. With fewer blocks than rows the
  * rows beyond n are empty and add nothing to a token, so that a token covers those of its r rows that have a block. Later blocks fill
  * the rows, and then begin a new column. legbaro_positions tells how many positions a file with few blocks and many planned rows needs.
+ *
+ * MARKS. A deleted block is B zero bytes. A block of zeros that belongs to the file, such as the sample of a closed day, has the same
+ * bytes, and in a file of version 1 the same hash: a host may drop it unseen. In a file of version 2 each block has a mark beside it,
+ * LEGBARO_LIVE or LEGBARO_DELETED, which is hashed with it. Set-up, append, load and update make a block live, a deletion makes it
+ * deleted; the host keeps the marks, a byte for each block. The owner hands over a block's old mark with the old block, and the host lends
+ * all marks to its proof. A file of version 1 has no marks: there the buffers for them are empty. Take version 2 for a new file. The
+ * version is fixed at set-up, and card, token records, messages and replies bear it.
  *
  * RESULT. Every call returns code + 256 * number. The code is 0 for an accepted call. The number is 0 but in two cases: with
  * LEGBARO_BAD_RECORD it is a token, and from legbaro_positions, with code 0, it is what was asked for.
@@ -30,8 +38,8 @@
  *   - a master and a file id are set up once only. A second set-up would seal other tokens under the same nonces, and who sees both
  *     tables can read tokens. The master is 32 random bytes, and the host never sees it.
  *   - a card that a call has written takes the place of the one before. An older copy must not be used again, for the same reason.
- *   - the old block handed to an update or a deletion, alone or in a batch, is the one the file holds. Other bytes are taken as they are,
- *     and then the tokens that cover the block no longer fit the file.
+ *   - the old block handed to an update or a deletion, alone or in a batch, is the one the file holds, and in version 2 the old mark is
+ *     its mark. Others are taken as they are, and then the tokens that cover the block no longer fit the file.
  *
  * The library keeps nothing between calls, allocates nothing, and needs less than 64 KB of stack. Calls on separate buffers may run at
  * the same time. It runs on every x86-64 processor, and uses AVX2 or AVX-512 where a program is loaded on a processor that has them; what
@@ -55,6 +63,12 @@ extern "C" {
 #define LEGBARO_MESSAGE_BYTES 91
 #define LEGBARO_REPLY_BYTES 110
 
+/* Versions of a file, and the marks of a block. */
+#define LEGBARO_WITHOUT_MARKS 1
+#define LEGBARO_WITH_MARKS 2
+#define LEGBARO_LIVE 0
+#define LEGBARO_DELETED 1
+
 /* Limits. The least of every number is 1, but the counter starts at 0. */
 #define LEGBARO_MOST_BLOCK_BYTES 4096 /* B */
 #define LEGBARO_MOST_ROWS 1048576     /* d */
@@ -67,7 +81,7 @@ extern "C" {
 /* Codes. */
 #define LEGBARO_OK 0
 #define LEGBARO_WRONG_LENGTH 1        /* a buffer has another length than the call asks */
-#define LEGBARO_WRONG_HEADER 2        /* the length field or the version of the card or the message is wrong */
+#define LEGBARO_WRONG_HEADER 2        /* the length field of the card or the message is wrong, or its version is neither 1 nor 2 */
 #define LEGBARO_OUT_OF_LIMITS 3       /* a field of the card or the message, or a number lent, is outside its limits */
 #define LEGBARO_NO_SUCH_BLOCK 4       /* the block number, or one in a batch, is 0 or above n */
 #define LEGBARO_FILE_FULL 5           /* append or load that would make n more than LEGBARO_MOST_BLOCKS */
@@ -80,6 +94,7 @@ extern "C" {
 #define LEGBARO_NOT_WHOLE_BLOCKS 12   /* load of no bytes, or of a length that B does not divide */
 #define LEGBARO_TOO_MANY_POSITIONS 13 /* the positions asked for are more than LEGBARO_MOST_POSITIONS */
 #define LEGBARO_BAD_BATCH 14          /* a batch of no item, too many or no whole ones, of another kind, or with numbers that do not rise */
+#define LEGBARO_BAD_MARK 15           /* a mark is neither LEGBARO_LIVE nor LEGBARO_DELETED */
 
 /* The two parts of a result: the code, and the number, which is a token with LEGBARO_BAD_RECORD. */
 #define LEGBARO_CODE(result) ((result) % 256)
@@ -88,8 +103,9 @@ extern "C" {
 
 /*
  * A card, for who wants to look into one: big-endian numbers, each at its offset.
- * In front stand a two-byte length of what follows, 41, and version 1. Only the library writes cards.
+ * In front stands a two-byte length of what follows, 41. Only the library writes cards.
  */
+#define LEGBARO_CARD_VERSION 2      /* 1 byte: LEGBARO_WITHOUT_MARKS or LEGBARO_WITH_MARKS */
 #define LEGBARO_CARD_ID 3           /* 8 bytes: the file id */
 #define LEGBARO_CARD_BLOCK_BYTES 11 /* 2 bytes: B */
 #define LEGBARO_CARD_ROWS 13        /* 4 bytes: d */
@@ -100,12 +116,13 @@ extern "C" {
 #define LEGBARO_CARD_NEXT 35        /* 4 bytes: the token to draw next, t + 1 after the last */
 #define LEGBARO_CARD_OPEN 39        /* 4 bytes: the token drawn and not judged, 0 for none */
 
-/* An item of a batch, on blocks of B bytes: what it has at which offset, and how many bytes it is. */
-#define LEGBARO_ITEM_KIND 0                 /* 1 byte: LEGBARO_ITEM_UPDATE or LEGBARO_ITEM_DELETE */
-#define LEGBARO_ITEM_BLOCK 1                /* 4 bytes, big-endian: the block number */
-#define LEGBARO_ITEM_OLD 5                  /* B bytes: the block as it is; zero bytes for a deleted one */
-#define LEGBARO_ITEM_NEW(B) (5 + (B))       /* B bytes: what the block becomes; in a deletion they are there and not read */
-#define LEGBARO_ITEM_BYTES(B) (5 + 2 * (B)) /* the next item begins here */
+/* An item of a batch, for a file's version and blocks of B bytes: what it has at which offset, and how many bytes it is. */
+#define LEGBARO_ITEM_KIND 0                                               /* 1 byte: LEGBARO_ITEM_UPDATE or LEGBARO_ITEM_DELETE */
+#define LEGBARO_ITEM_BLOCK 1                                              /* 4 bytes, big-endian: the block number */
+#define LEGBARO_ITEM_OLD 5                                                /* B bytes: the block as it is; zero bytes for a deleted one */
+#define LEGBARO_ITEM_MARK(B) (5 + (B))                                    /* 1 byte, in version 2 alone: the mark as it is */
+#define LEGBARO_ITEM_NEW(version, B) (5 + (B) + ((version) == 1 ? 0 : 1)) /* B bytes: what the block becomes; a deletion's are not read */
+#define LEGBARO_ITEM_BYTES(version, B) (LEGBARO_ITEM_NEW(version, B) + (B)) /* the next item begins here */
 
 /* The kinds of an item. */
 #define LEGBARO_ITEM_UPDATE 1
@@ -116,9 +133,10 @@ extern "C" {
  *
  *   master     LEGBARO_MASTER_BYTES
  *   id         LEGBARO_ID_BYTES, the owner's name for the file
- *   block_bytes, rows, positions, tokens   B, d, r and t; fixed for the life of the file
+ *   version    LEGBARO_WITHOUT_MARKS or LEGBARO_WITH_MARKS
+ *   block_bytes, rows, positions, tokens   B, d, r and t; fixed for the life of the file, as the version is
  *   blocks_count   n: the number of blocks there are now, from 1
- *   blocks     blocks_count * block_bytes: the first blocks, end to end
+ *   blocks     blocks_count * block_bytes: the first blocks, end to end; all of them live
  *   card       LEGBARO_CARD_BYTES, written: n, counter 0, next 1, none open
  *   table      tokens * LEGBARO_RECORD_BYTES, written
  *
@@ -128,6 +146,7 @@ extern "C" {
  */
 uint64_t legbaro_set_up(const uint8_t *master, size_t master_length,
                         const uint8_t *id, size_t id_length,
+                        uint64_t version,
                         uint64_t block_bytes, uint64_t rows, uint64_t positions, uint64_t tokens, uint64_t blocks_count,
                         const uint8_t *blocks, size_t blocks_length,
                         uint8_t *card, size_t card_length,
@@ -141,36 +160,40 @@ uint64_t legbaro_set_up(const uint8_t *master, size_t master_length,
  *   table      t * LEGBARO_RECORD_BYTES, written: every unused record, which is every one from next to t, is sealed again
  *   block      1 to n
  *   old_block  B bytes: the block as it is; zero bytes for a deleted one
- *   new_block  B bytes
+ *   mark       in version 2 one byte, the block's mark as it is; in version 1 empty
+ *   new_block  B bytes; in version 2 the block is then live
  *
- * Codes: 1 (master, card), 2, 3, 1 (table, old_block, new_block), 8, 4, 10, 7. With 7 comes the lowest unused token whose record does not
- * open: every unused record below it opens. Where the records from that number on are fetched again from the host, and open, the same
- * call is accepted.
+ * Codes: 1 (master, card), 2, 3, 1 (table, old_block, mark, new_block), 15, 8, 4, 10, 7. With 7 comes the lowest unused token whose record
+ * does not open: every unused record below it opens. Where the records from that number on are fetched again from the host, and open, the
+ * same call is accepted.
  */
 uint64_t legbaro_update(const uint8_t *master, size_t master_length,
                         uint8_t *card, size_t card_length,
                         uint8_t *table, size_t table_length,
                         uint64_t block,
                         const uint8_t *old_block, size_t old_block_length,
+                        const uint8_t *mark, size_t mark_length,
                         const uint8_t *new_block, size_t new_block_length);
 
 /*
- * Deletion, the owner's: block number `block` was old_block and becomes B zero bytes, which the host puts in its place. The number of
- * blocks stays. A deleted block may be deleted or updated again.
+ * Deletion, the owner's: block number `block` was old_block and becomes B zero bytes, which the host puts in its place; in version 2 its
+ * mark becomes LEGBARO_DELETED. The number of blocks stays. A deleted block may be deleted or updated again.
  *
  *   master     LEGBARO_MASTER_BYTES
  *   card       LEGBARO_CARD_BYTES, written as in an update
  *   table      t * LEGBARO_RECORD_BYTES, written as in an update
  *   block      1 to n
  *   old_block  B bytes: the block as it is
+ *   mark       in version 2 one byte, the block's mark as it is; in version 1 empty
  *
- * Codes: 1 (master, card), 2, 3, 1 (table, old_block), 8, 4, 10, 7 (as in an update).
+ * Codes: 1 (master, card), 2, 3, 1 (table, old_block, mark), 15, 8, 4, 10, 7 (as in an update).
  */
 uint64_t legbaro_delete(const uint8_t *master, size_t master_length,
                         uint8_t *card, size_t card_length,
                         uint8_t *table, size_t table_length,
                         uint64_t block,
-                        const uint8_t *old_block, size_t old_block_length);
+                        const uint8_t *old_block, size_t old_block_length,
+                        const uint8_t *mark, size_t mark_length);
 
 /*
  * Append, the owner's: new_block comes behind the last block.
@@ -178,7 +201,7 @@ uint64_t legbaro_delete(const uint8_t *master, size_t master_length,
  *   master     LEGBARO_MASTER_BYTES
  *   card       LEGBARO_CARD_BYTES, written as in an update; n rises by 1 too
  *   table      t * LEGBARO_RECORD_BYTES, written as in an update
- *   new_block  B bytes
+ *   new_block  B bytes; in version 2 the block is live
  *
  * Codes: 1 (master, card), 2, 3, 1 (table, new_block), 8, 5, 10, 7 (as in an update).
  */
@@ -193,7 +216,7 @@ uint64_t legbaro_append(const uint8_t *master, size_t master_length,
  *   master     LEGBARO_MASTER_BYTES
  *   card       LEGBARO_CARD_BYTES, written as in an update; n rises by the number of blocks too
  *   table      t * LEGBARO_RECORD_BYTES, written as in an update
- *   blocks     the new blocks, end to end: B bytes for each, and at least one
+ *   blocks     the new blocks, end to end: B bytes for each, and at least one; in version 2 they are live
  *
  * The tokens in the table are then those that the same blocks would leave if they were appended one by one; counter and sealing alone
  * differ. A load of one block writes what an append of it writes.
@@ -214,8 +237,8 @@ uint64_t legbaro_load(const uint8_t *master, size_t master_length,
  *   master     LEGBARO_MASTER_BYTES
  *   card       LEGBARO_CARD_BYTES, written as in an update: the counter rises by 1, however many items there are
  *   table      t * LEGBARO_RECORD_BYTES, written as in an update
- *   items      LEGBARO_ITEM_BYTES(B) for each item, end to end, in the order of their block numbers: each number above the one before,
- *              so that a block is in a batch once
+ *   items      LEGBARO_ITEM_BYTES(version, B) for each item, end to end, in the order of their block numbers: each number above the one
+ *              before, so that a block is in a batch once
  *
  * The tokens in the table are then those that the same updates and deletions would leave if they were made one by one; counter and
  * sealing alone differ. A batch of one item writes what that update or deletion writes.
@@ -223,8 +246,8 @@ uint64_t legbaro_load(const uint8_t *master, size_t master_length,
  * once and not once for each of them, and every unused record is opened and sealed once. What each item costs is a walk, and two hashes
  * where the token draws its row. All of a batch is taken or none of it.
  *
- * Codes: 1 (master, card), 2, 3, 1 (table), 8, 14, 4, 10, 7 (as in an update). The length of items is told by 14, never by 1. With 14 or 4
- * nothing tells which item it was.
+ * Codes: 1 (master, card), 2, 3, 1 (table), 8, 14, 15, 4, 10, 7 (as in an update). The length of items is told by 14, never by 1. With 14,
+ * 15 or 4 nothing tells which item it was.
  */
 uint64_t legbaro_batch(const uint8_t *master, size_t master_length,
                        uint8_t *card, size_t card_length,
@@ -263,6 +286,7 @@ uint64_t legbaro_judge(const uint8_t *master, size_t master_length,
  *
  *   message    LEGBARO_MESSAGE_BYTES, from the owner
  *   blocks     n * B bytes: all blocks end to end
+ *   marks      in version 2 n bytes: the mark of each block; in version 1 empty
  *   table      at least i * LEGBARO_RECORD_BYTES, where i is the message's token; the host lends it whole
  *   reply      LEGBARO_REPLY_BYTES, written
  *
@@ -271,10 +295,11 @@ uint64_t legbaro_judge(const uint8_t *master, size_t master_length,
  * from the first touch of a block on, at most fifteen further blocks are touched before it has been read to its end, and then it is not read
  * again.
  *
- * Codes: 1 (message, reply), 2, 3, 1 (blocks, table).
+ * Codes: 1 (message, reply), 2, 3, 1 (blocks, marks, table), 15. The version is the message's.
  */
 uint64_t legbaro_prove(const uint8_t *message, size_t message_length,
                        const uint8_t *blocks, size_t blocks_length,
+                       const uint8_t *marks, size_t marks_length,
                        const uint8_t *table, size_t table_length,
                        uint8_t *reply, size_t reply_length);
 

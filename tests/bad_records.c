@@ -28,9 +28,9 @@ struct set {
     int has[MOST_T + 1];
 };
 
-static struct held begun(uint64_t t)
+static struct held begun(uint64_t version, uint64_t t)
 {
-    struct held held = {.file = file_set_up(B, D, R, t, N)};
+    struct held held = {.file = file_set_up(version, B, D, R, t, N)};
     held.older = buffer_copy(&held.file.table);
     return held;
 }
@@ -137,18 +137,24 @@ static void every_set(const struct held *held)
 }
 
 /* With each number of tokens spent, from none to all. */
+static void small_table(uint64_t version, uint64_t t)
+{
+    struct held held = begun(version, t);
+    for (uint64_t next = 1; next <= t + 1; next++) {
+        change(&held);
+        every_set(&held);
+        if (next <= t)
+            spend(&held);
+    }
+    end(&held);
+}
+
 static void small_tables(void)
 {
     for (uint64_t t = 1; t <= SMALL_T; t++) {
         group_begin("every set of damaged records in a table of %llu, fetched again from the number told", (unsigned long long)t);
-        struct held held = begun(t);
-        for (uint64_t next = 1; next <= t + 1; next++) {
-            change(&held);
-            every_set(&held);
-            if (next <= t)
-                spend(&held);
-        }
-        end(&held);
+        for (uint64_t version = FIRST_VERSION; version <= LAST_VERSION; version++)
+            small_table(version, t);
         group_end();
     }
 }
@@ -164,7 +170,7 @@ static struct set any_set(uint64_t t, uint64_t bound)
 
 static void larger_table(uint64_t t, uint64_t spent)
 {
-    struct held held = begun(t);
+    struct held held = begun(any_version(), t);
     for (uint64_t i = 0; i < spent; i++)
         spend(&held);
     change(&held);

@@ -9,8 +9,10 @@
 
 #define COUNT(array) (sizeof(array) / sizeof *(array))
 
-/* Blocks whose hashed bytes, 36 more, end around a SHA-256 block of 64 or around the last 8 of one; and the least and the most. */
-static const uint64_t block_bytes[] = {1, 19, 20, 27, 28, 29, 83, 84, 91, 92, 93, 147, 148, 183, LEGBARO_MOST_BLOCK_BYTES};
+/* Blocks whose hashed bytes, 36 more or with a mark 37, end around a SHA-256 block of 64 or around the last 8 of one; and the least and the
+ * most. */
+static const uint64_t block_bytes[] = {1,  18, 19, 20, 26, 27,  28,  29,  82,  83,
+                                       84, 90, 91, 92, 93, 146, 147, 148, 183, LEGBARO_MOST_BLOCK_BYTES};
 
 /* An audit of the file as it is, accepted. */
 static void audit(struct file *file)
@@ -41,7 +43,7 @@ static void put_kinds(const struct file *file, struct call *batch, enum kinds ki
 /* Batches of 1 to 64 items, one after the other, over d rows. */
 static void every_size(uint64_t B, uint64_t d, uint64_t r, enum kinds kinds)
 {
-    struct file file = file_set_up(B, d, r, 2, LEGBARO_MOST_ITEMS + chance_below(2 * d));
+    struct file file = file_set_up(any_version(), B, d, r, 2, LEGBARO_MOST_ITEMS + chance_below(2 * d));
     for (size_t items = 1; items <= LEGBARO_MOST_ITEMS; items++) {
         struct call batch = file_batch_call(&file, items);
         put_kinds(&file, &batch, kinds);
@@ -71,7 +73,7 @@ static void many_rows(void)
     static const uint64_t rows[][2] = {{64, 64}, {512, 512}, {600, 512}, {4096, 64}, {5000, 460}, {100000, 512}, {100000, 1}};
     group_begin("batches over many rows");
     for (size_t i = 0; i < COUNT(rows); i++) {
-        struct file file = file_set_up(64, rows[i][0], rows[i][1], 4, rows[i][0] + chance_below(rows[i][0]));
+        struct file file = file_set_up(any_version(), 64, rows[i][0], rows[i][1], 4, rows[i][0] + chance_below(rows[i][0]));
         for (size_t items = LEGBARO_MOST_ITEMS; items >= LEGBARO_MOST_ITEMS / 2 - 1; items -= 11)
             file_batch(&file, items);
         audit(&file);
@@ -96,7 +98,7 @@ static void stepped(struct file *file, uint64_t first, uint64_t step)
 /* Every block of a row, neighbours, the first block and the last, on d rows with n blocks. */
 static void which_blocks(uint64_t d, uint64_t n)
 {
-    struct file file = file_set_up(29, d, 1 + chance_below(d), 3, n);
+    struct file file = file_set_up(any_version(), 29, d, 1 + chance_below(d), 3, n);
     for (uint64_t row = 1; row <= d && row <= n; row++)
         stepped(&file, row, d);
     stepped(&file, 1, 1);
@@ -119,23 +121,28 @@ static void rows_and_ends(void)
     group_end();
 }
 
-/* A batch deletes blocks; then batches update and delete them again, and hand over zero bytes. */
-static void deleted_again(void)
+/* A batch deletes blocks; then batches update and delete them again, and hand over zero bytes and the mark of a deleted block. */
+static void deleted_again(uint64_t version, uint64_t B)
 {
     static const uint64_t blocks[] = {1, 3, 4, 8, 11};
     static const enum kinds turns[] = {DELETIONS, DELETIONS, UPDATES, DELETIONS, UPDATES, UPDATES};
-    group_begin("blocks deleted and updated again by batches");
-    for (size_t b = 0; b < COUNT(block_bytes); b++) {
-        struct file file = file_set_up(block_bytes[b], 4, 4, 2, 11);
-        for (size_t i = 0; i < COUNT(turns); i++) {
-            struct call batch = file_batch_of(&file, blocks, COUNT(blocks));
-            put_kinds(&file, &batch, turns[i]);
-            run_batch(&file, batch);
-            file_expect_book(&file);
-        }
-        audit(&file);
-        file_end(&file);
+    struct file file = file_set_up(version, B, 4, 4, 2, 11);
+    for (size_t i = 0; i < COUNT(turns); i++) {
+        struct call batch = file_batch_of(&file, blocks, COUNT(blocks));
+        put_kinds(&file, &batch, turns[i]);
+        run_batch(&file, batch);
+        file_expect_book(&file);
     }
+    audit(&file);
+    file_end(&file);
+}
+
+static void blocks_deleted_again(void)
+{
+    group_begin("blocks deleted and updated again by batches");
+    for (size_t b = 0; b < COUNT(block_bytes); b++)
+        for (uint64_t version = FIRST_VERSION; version <= LAST_VERSION; version++)
+            deleted_again(version, block_bytes[b]);
     group_end();
 }
 
@@ -144,10 +151,12 @@ static void deleted_again(void)
 /* Item e of a batch as a single change on the file. */
 static struct call single(const struct file *file, const struct buffer *items, size_t e)
 {
-    struct item item = second_item(items->bytes, file->book.numbers.B, e);
+    struct item item = second_item(items->bytes, &file->book.numbers, e);
     struct call call = file_call(file, item.kind == LEGBARO_ITEM_UPDATE ? UPDATE : DELETE);
     call.m = item.m;
     memcpy(call.lent[OLD].bytes, item.old_block, call.lent[OLD].length);
+    if (item.mark)
+        call.lent[MARKS].bytes[0] = *item.mark;
     if (call.kind == UPDATE)
         memcpy(call.lent[NEW].bytes, item.new_block, call.lent[NEW].length);
     return call;
@@ -175,7 +184,7 @@ static void expect_alike(const struct file *one, const struct file *other)
 /* One set-up made twice, with tokens spent; a batch here, the same changes one by one there. */
 static void batch_and_singles(uint64_t B, uint64_t d, uint64_t spent, size_t items)
 {
-    struct call again = file_set_up_call(B, d, 1 + chance_below(d), 5, LEGBARO_MOST_ITEMS + chance_below(d));
+    struct call again = file_set_up_call(any_version(), B, d, 1 + chance_below(d), 5, LEGBARO_MOST_ITEMS + chance_below(d));
     struct file together = file_of(&again), singly = file_of(&again);
     for (uint64_t i = 0; i < spent; i++) {
         audit(&together);
@@ -221,7 +230,7 @@ static void batches_of_one(void)
     group_begin("a batch of one item writes what that change writes");
     for (size_t b = 0; b < COUNT(block_bytes); b++)
         for (uint64_t n = 1; n <= 12; n++) {
-            struct file file = file_set_up(block_bytes[b], 5, 1 + chance_below(5), 3, n);
+            struct file file = file_set_up(any_version(), block_bytes[b], 5, 1 + chance_below(5), 3, n);
             one_item(&file);
             audit(&file);
             one_item(&file);
@@ -238,12 +247,12 @@ static void new_bytes_of_deletions(void)
     group_begin("a deletion's new bytes are not read");
     for (size_t b = 0; b < COUNT(block_bytes); b++) {
         uint64_t B = block_bytes[b];
-        struct file file = file_set_up(B, 7, 7, 2, 40);
+        struct file file = file_set_up(any_version(), B, 7, 7, 2, 40);
         struct call batch = file_batch_call(&file, 9);
         put_kinds(&file, &batch, DELETIONS);
         struct call other = call_copy(&batch);
         for (size_t e = 0; e < 9; e++)
-            chance_bytes(other.lent[ITEMS].bytes + file_item_at(&file, e, LEGBARO_ITEM_NEW(B)), B);
+            chance_bytes(other.lent[ITEMS].bytes + file_item_at(&file, e, LEGBARO_ITEM_NEW(file.book.numbers.version, B)), B);
         call_expect(&batch, LEGBARO_OK, "accepted");
         call_expect(&other, LEGBARO_OK, "accepted");
         expect(buffer_same(&batch.lent[CARD], &other.lent[CARD]), "the same card");
@@ -257,8 +266,9 @@ static void new_bytes_of_deletions(void)
 
 /* ---- Faults ---- */
 
-/* What may be wrong with an item of a batch: its kind is 0 or 3; its number is that of the item before or behind; 0; above n. */
-enum wrong { KIND_0, KIND_3, AS_BEFORE, AS_BEHIND, NUMBER_0, ABOVE_N, WRONGS };
+/* What may be wrong with an item of a batch: its kind is 0 or 3; its number is that of the item before or behind; its mark is 2 or 255; its
+ * number is 0, or above n. In version 1 there is no mark, and the number is 0 instead. */
+enum wrong { KIND_0, KIND_3, AS_BEFORE, AS_BEHIND, MARK_2, MARK_255, NUMBER_0, ABOVE_N, WRONGS };
 
 static void make_wrong(const struct file *file, struct buffer *items, size_t e, enum wrong wrong)
 {
@@ -270,23 +280,28 @@ static void make_wrong(const struct file *file, struct buffer *items, size_t e, 
         buffer_put_number(items, block, 4, buffer_number(items, block - size, 4));
     else if (wrong == AS_BEHIND && block + size < items->length)
         buffer_put_number(items, block, 4, buffer_number(items, block + size, 4));
+    else if ((wrong == MARK_2 || wrong == MARK_255) && file->book.numbers.version != LEGBARO_WITHOUT_MARKS)
+        buffer_put_number(items, file_item_at(file, e, LEGBARO_ITEM_MARK(file->book.numbers.B)), 1,
+                          wrong == MARK_2 ? 2 : UINT8_MAX);
     else
-        buffer_put_number(items, block, 4, wrong == NUMBER_0 || wrong == AS_BEFORE ? 0 : file->book.numbers.n + 1);
+        buffer_put_number(items, block, 4, wrong == AS_BEHIND || wrong == ABOVE_N ? file->book.numbers.n + 1 : 0);
 }
 
-/* The code of items whose fields may be wrong: any kind or number that does not rise before any number that is not there. */
+/* The code of items whose fields may be wrong: a kind or a number that does not rise before any mark, and a mark before any number that is
+ * not there. */
 static uint64_t code_of(const struct file *file, const struct buffer *items)
 {
-    uint64_t code = LEGBARO_OK, before = 0;
+    int form = 0, mark = 0, number = 0;
+    uint64_t before = 0;
     for (size_t at = 0; at < items->length; at += file_item_at(file, 1, 0)) {
         uint64_t kind = items->bytes[at + LEGBARO_ITEM_KIND], m = buffer_number(items, at + LEGBARO_ITEM_BLOCK, 4);
-        if ((kind != LEGBARO_ITEM_UPDATE && kind != LEGBARO_ITEM_DELETE) || (at > 0 && m <= before))
-            return LEGBARO_BAD_BATCH;
-        if (m == 0 || m > file->book.numbers.n)
-            code = LEGBARO_NO_SUCH_BLOCK;
+        form |= (kind != LEGBARO_ITEM_UPDATE && kind != LEGBARO_ITEM_DELETE) || (at > 0 && m <= before);
+        mark |= file->book.numbers.version != LEGBARO_WITHOUT_MARKS &&
+                items->bytes[at + LEGBARO_ITEM_MARK(file->book.numbers.B)] > LEGBARO_DELETED;
+        number |= m == 0 || m > file->book.numbers.n;
         before = m;
     }
-    return code;
+    return form ? LEGBARO_BAD_BATCH : mark ? LEGBARO_BAD_MARK : number ? LEGBARO_NO_SUCH_BLOCK : LEGBARO_OK;
 }
 
 /* Something wrong in one item or two, first, in the middle or last. */
@@ -308,25 +323,33 @@ static void faults_of_items(void)
 {
     static const size_t counts[] = {1, 2, 3, 7, LEGBARO_MOST_ITEMS};
     group_begin("batches with one item wrong, or two");
-    struct file file = file_set_up(4, 6, 4, 2, LEGBARO_MOST_ITEMS + 3);
-    for (size_t i = 0; i < COUNT(counts); i++)
-        wrong_items(&file, counts[i]);
-    file_end(&file);
+    for (uint64_t version = FIRST_VERSION; version <= LAST_VERSION; version++) {
+        struct file file = file_set_up(version, 4, 6, 4, 2, LEGBARO_MOST_ITEMS + 3);
+        for (size_t i = 0; i < COUNT(counts); i++)
+            wrong_items(&file, counts[i]);
+        file_end(&file);
+    }
     group_end();
 }
 
 /* Every length of a batch up to three items, on a file of blocks of five bytes. */
-static void batch_lengths(void)
+static void batch_lengths(uint64_t version)
 {
-    enum { B = 5 };
-    group_begin("every length of a batch up to three items");
-    struct file file = file_set_up(B, 4, 4, 2, 5);
-    for (size_t length = 0; length <= 3 * LEGBARO_ITEM_BYTES(B); length++) {
+    struct file file = file_set_up(version, 5, 4, 4, 2, 5);
+    size_t size = file_item_at(&file, 1, 0);
+    for (size_t length = 0; length <= 3 * size; length++) {
         struct call call = file_batch_call(&file, 3);
         buffer_resize(&call.lent[ITEMS], length);
-        call_finish(&call, length > 0 && length % LEGBARO_ITEM_BYTES(B) == 0 ? LEGBARO_OK : LEGBARO_BAD_BATCH, "a batch's length");
+        call_finish(&call, length > 0 && length % size == 0 ? LEGBARO_OK : LEGBARO_BAD_BATCH, "a batch's length");
     }
     file_end(&file);
+}
+
+static void every_batch_length(void)
+{
+    group_begin("every length of a batch up to three items");
+    for (uint64_t version = FIRST_VERSION; version <= LAST_VERSION; version++)
+        batch_lengths(version);
     group_end();
 }
 
@@ -334,7 +357,7 @@ static void batch_lengths(void)
 static void none_unused(void)
 {
     group_begin("a batch with every token spent");
-    struct file file = file_set_up(28, 5, 5, 2, 20);
+    struct file file = file_set_up(any_version(), 28, 5, 5, 2, 20);
     audit(&file);
     audit(&file);
     struct buffer table = buffer_copy(&file.table);
@@ -351,11 +374,11 @@ void test_batches(void)
     every_size_and_kind();
     many_rows();
     rows_and_ends();
-    deleted_again();
+    blocks_deleted_again();
     batches_and_singles();
     batches_of_one();
     new_bytes_of_deletions();
     faults_of_items();
-    batch_lengths();
+    every_batch_length();
     none_unused();
 }

@@ -40,19 +40,28 @@ static void record_bits(const struct file *changing)
     group_end();
 }
 
-/* Every bit of a batch, on two copies of its call. A kind with any bit flipped is none of the two. */
+/* What a batch with one bit flipped may return, where that is certain: a kind with any bit flipped is none of the two, a mark may be 0 or
+ * 1, and any old and new bytes are taken. */
+static int item_number_fits(const struct file *file, size_t bit, uint64_t number)
+{
+    size_t at = bit / 8 % file_item_at(file, 1, 0);
+    int mark = file->book.numbers.version != LEGBARO_WITHOUT_MARKS && at == LEGBARO_ITEM_MARK(B);
+    if (at == LEGBARO_ITEM_KIND)
+        return number == LEGBARO_BAD_BATCH;
+    if (mark && bit % 8 != 0)
+        return number == LEGBARO_BAD_MARK;
+    return at < LEGBARO_ITEM_OLD || number == LEGBARO_OK;
+}
+
 static void item_bits(const struct file *changing)
 {
     static const uint64_t blocks[] = {1, 4, 5};
-    enum { ITEM_BITS = 8 * LEGBARO_ITEM_BYTES(B) };
     group_begin("every bit of a batch");
     struct call batch = file_batch_of(changing, blocks, sizeof blocks / sizeof *blocks);
     for (size_t bit = 0; bit < 8 * batch.lent[ITEMS].length; bit++) {
         struct call call = call_copy(&batch);
         buffer_flip(&call.lent[ITEMS], bit);
-        uint64_t number = call_compare(&call);
-        expect(number == LEGBARO_BAD_BATCH || bit % ITEM_BITS >= 8 * LEGBARO_ITEM_BLOCK, "a kind with bit %lu flipped", (unsigned long)bit);
-        expect(number == LEGBARO_OK || bit % ITEM_BITS < 8 * LEGBARO_ITEM_OLD, "any old and new bytes are taken");
+        expect(item_number_fits(changing, bit, call_compare(&call)), "bit %lu of the items", (unsigned long)bit);
         call_free(&call);
     }
     call_free(&batch);
@@ -68,10 +77,14 @@ static void reply_bits(const struct file *judging)
     group_end();
 }
 
-/* Every bit of a message, of the blocks and of the table, in a proof. The table is copied unread. */
+/* Every bit of a message, of the blocks, of the marks and of the table, in a proof. A mark may be 0 or 1. The table is copied unread. */
 static void proof_bits(const struct file *judging)
 {
-    group_begin("every bit of a message, of the blocks and of the table in a proof");
+    size_t marks = judging->book.numbers.version == LEGBARO_WITHOUT_MARKS ? 0 : judging->book.numbers.n;
+    group_begin("every bit of a message, of the blocks, of the marks and of the table in a proof");
+    for (size_t bit = 0; bit < 8 * marks; bit++)
+        expect(with_bit(judging, PROVE, MARKS, bit) == (bit % 8 == 0 ? LEGBARO_OK : LEGBARO_BAD_MARK), "bit %lu of the marks",
+               (unsigned long)bit);
     for (size_t bit = 0; bit < 8 * LEGBARO_MESSAGE_BYTES; bit++)
         with_bit(judging, PROVE, MESSAGE, bit);
     for (size_t bit = 0; bit < 8 * B * judging->book.numbers.n; bit++)
@@ -93,14 +106,15 @@ static void master_bits(const struct file *changing, const struct file *judging)
     group_end();
 }
 
-void test_bits(void)
+static void version_bits(uint64_t version)
 {
-    group_begin("files for the bits");
-    struct file changing = file_set_up(B, D, R, T, D), judging = file_set_up(B, D, R, T, D);
+    group_begin("files of version %llu for the bits", (unsigned long long)version);
+    struct file changing = file_set_up(version, B, D, R, T, D), judging = file_set_up(version, B, D, R, T, D);
     file_do(&changing, DRAW);
     file_do(&changing, JUDGE);
     file_do(&changing, APPEND);
     file_do(&judging, APPEND);
+    file_do(&judging, DELETE);
     file_do(&judging, DRAW);
     group_end();
     card_bits(&changing, &judging);
@@ -111,4 +125,10 @@ void test_bits(void)
     master_bits(&changing, &judging);
     file_end(&changing);
     file_end(&judging);
+}
+
+void test_bits(void)
+{
+    for (uint64_t version = FIRST_VERSION; version <= LAST_VERSION; version++)
+        version_bits(version);
 }

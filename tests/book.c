@@ -25,11 +25,13 @@ static size_t table_bytes(const struct book *book)
 struct book book_start(const struct call *set_up)
 {
     struct book book = {
-        .numbers = {.B = set_up->B, .d = set_up->d, .r = set_up->r, .t = set_up->t, .n = set_up->n, .ctr = 0, .next = 1, .open = 0}};
+        .numbers = {.version = set_up->version, .B = set_up->B, .d = set_up->d, .r = set_up->r, .t = set_up->t, .n = set_up->n, .next = 1}};
     memcpy(book.key, set_up->lent[MASTER].bytes, sizeof book.key);
     memcpy(book.numbers.id, set_up->lent[ID].bytes, sizeof book.numbers.id);
     book.blocks = resized(NULL, set_up->lent[BLOCKS].length);
     memcpy(book.blocks, set_up->lent[BLOCKS].bytes, set_up->lent[BLOCKS].length);
+    book.marks = resized(NULL, set_up->n);
+    memset(book.marks, LEGBARO_LIVE, set_up->n);
     book.spent = resized(NULL, table_bytes(&book));
     return book;
 }
@@ -37,6 +39,7 @@ struct book book_start(const struct call *set_up)
 void book_end(struct book *book)
 {
     free(book->blocks);
+    free(book->marks);
     free(book->spent);
 }
 
@@ -51,6 +54,11 @@ const uint8_t *book_block(const struct book *book, uint64_t m)
     return place_of(book, m);
 }
 
+const uint8_t *book_mark(const struct book *book, uint64_t m)
+{
+    return book->marks + (m - 1);
+}
+
 void book_card(const struct book *book, uint8_t *card)
 {
     second_write_card(card, &book->numbers);
@@ -60,7 +68,7 @@ void book_card(const struct book *book, uint8_t *card)
 void book_table(const struct book *book, uint8_t *table)
 {
     memcpy(table, book->spent, (book->numbers.next - 1) * LEGBARO_RECORD_BYTES);
-    second_fresh_records(book->key, &book->numbers, book->blocks, book->numbers.next, book->numbers.t, table);
+    second_fresh_records(book->key, &book->numbers, book->blocks, book->marks, book->numbers.next, book->numbers.t, table);
 }
 
 /* The edit that a change makes. */
@@ -68,9 +76,18 @@ static struct edit edit_of(const struct call *call)
 {
     static const enum edit_kind kinds[] = {
         [UPDATE] = EDIT_UPDATE, [DELETE] = EDIT_DELETE, [APPEND] = EDIT_APPEND, [LOAD] = EDIT_LOAD, [BATCH] = EDIT_BATCH};
-    const struct buffer *added = &call->lent[call->kind == LOAD ? BLOCKS : NEW], *old = &call->lent[OLD], *items = &call->lent[ITEMS];
-    struct edit edit = {kinds[call->kind], call->m,       old->bytes,   old->length,
-                        added->bytes,      added->length, items->bytes, items->length};
+    const struct buffer *old = &call->lent[OLD], *mark = &call->lent[MARKS], *items = &call->lent[ITEMS];
+    const struct buffer *added = &call->lent[call->kind == LOAD ? BLOCKS : NEW];
+    struct edit edit = {.kind = kinds[call->kind],
+                        .m = call->m,
+                        .old_block = old->bytes,
+                        .old_length = old->length,
+                        .mark = mark->bytes,
+                        .mark_length = mark->length,
+                        .new_blocks = added->bytes,
+                        .new_length = added->length,
+                        .items = items->bytes,
+                        .items_length = items->length};
     return edit;
 }
 
@@ -92,32 +109,36 @@ static uint64_t turned_away(const struct book *book, const struct call *call)
     }
 }
 
-/* Puts blocks at the end. */
+/* Puts blocks at the end; "set-up, append, load and update make blocks live" */
 static void add_blocks(struct book *book, const struct buffer *added)
 {
     size_t before = book->numbers.n * book->numbers.B;
+    size_t blocks = added->length / book->numbers.B;
     book->blocks = resized(book->blocks, before + added->length);
     memcpy(book->blocks + before, added->bytes, added->length);
-    book->numbers.n += added->length / book->numbers.B;
+    book->marks = resized(book->marks, book->numbers.n + blocks);
+    memset(book->marks + book->numbers.n, LEGBARO_LIVE, blocks);
+    book->numbers.n += blocks;
 }
 
 /* "Update puts the new block under its number, delete puts B zero bytes there" */
 static void put_block(struct book *book, uint64_t m, const uint8_t *block)
 {
     memcpy(place_of(book, m), block, book->numbers.B);
+    book->marks[m - 1] = LEGBARO_LIVE;
 }
 
 static void put_zeros(struct book *book, uint64_t m)
 {
     memset(place_of(book, m), 0, book->numbers.B);
+    book->marks[m - 1] = LEGBARO_DELETED;
 }
 
 /* A batch, "each a kind byte (1 update, 2 delete)" */
 static void take_items(struct book *book, const struct buffer *items)
 {
-    uint64_t B = book->numbers.B;
-    for (size_t e = 0; e < items->length / second_item_bytes(B); e++) {
-        struct item item = second_item(items->bytes, B, e);
+    for (size_t e = 0; e < items->length / second_item_bytes(&book->numbers); e++) {
+        struct item item = second_item(items->bytes, &book->numbers, e);
         if (item.kind == 1)
             put_block(book, item.m, item.new_block);
         else
@@ -144,7 +165,7 @@ static void take_change(struct book *book, const struct call *call)
 static void take_draw(struct book *book)
 {
     struct card *numbers = &book->numbers;
-    second_fresh_records(book->key, numbers, book->blocks, numbers->next, numbers->next, book->spent);
+    second_fresh_records(book->key, numbers, book->blocks, book->marks, numbers->next, numbers->next, book->spent);
     numbers->open = numbers->next;
     numbers->next++;
 }

@@ -14,19 +14,19 @@ static const struct {
     unsigned takes, writes;
 } kinds[KINDS] = {
     [SET_UP] = {"set-up", CHANGE | BIT(ID) | BIT(BLOCKS), BIT(CARD) | BIT(TABLE)},
-    [UPDATE] = {"update", CHANGE | BIT(OLD) | BIT(NEW), BIT(CARD) | BIT(TABLE)},
-    [DELETE] = {"delete", CHANGE | BIT(OLD), BIT(CARD) | BIT(TABLE)},
+    [UPDATE] = {"update", CHANGE | BIT(OLD) | BIT(MARKS) | BIT(NEW), BIT(CARD) | BIT(TABLE)},
+    [DELETE] = {"delete", CHANGE | BIT(OLD) | BIT(MARKS), BIT(CARD) | BIT(TABLE)},
     [APPEND] = {"append", CHANGE | BIT(NEW), BIT(CARD) | BIT(TABLE)},
     [LOAD] = {"load", CHANGE | BIT(BLOCKS), BIT(CARD) | BIT(TABLE)},
     [BATCH] = {"batch", CHANGE | BIT(ITEMS), BIT(CARD) | BIT(TABLE)},
     [DRAW] = {"draw", BIT(MASTER) | BIT(CARD) | BIT(MESSAGE), BIT(CARD) | BIT(MESSAGE)},
     [JUDGE] = {"judge", BIT(MASTER) | BIT(CARD) | BIT(REPLY), BIT(CARD)},
-    [PROVE] = {"prove", BIT(MESSAGE) | BIT(BLOCKS) | BIT(TABLE) | BIT(REPLY), BIT(REPLY)},
+    [PROVE] = {"prove", BIT(MESSAGE) | BIT(BLOCKS) | BIT(MARKS) | BIT(TABLE) | BIT(REPLY), BIT(REPLY)},
     [POSITIONS] = {"positions", 0, 0},
 };
 
-static const char *const roles[ROLES] = {"master",    "id",        "blocks", "card",    "table",
-                                         "old block", "new block", "items",  "message", "reply"};
+static const char *const roles[ROLES] = {"master", "id",        "blocks", "card",    "table", "old block",
+                                         "marks",  "new block", "items",  "message", "reply"};
 
 static unsigned long counts[KINDS][LAST_CODE + 1];
 

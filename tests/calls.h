@@ -8,14 +8,14 @@
 enum kind { SET_UP, UPDATE, DELETE, APPEND, LOAD, BATCH, DRAW, JUDGE, PROVE, POSITIONS, KINDS };
 
 /* The highest code of any call. */
-enum { LAST_CODE = LEGBARO_BAD_BATCH };
+enum { LAST_CODE = LEGBARO_BAD_MARK };
 
-enum role { MASTER, ID, BLOCKS, CARD, TABLE, OLD, NEW, ITEMS, MESSAGE, REPLY, ROLES };
+enum role { MASTER, ID, BLOCKS, CARD, TABLE, OLD, MARKS, NEW, ITEMS, MESSAGE, REPLY, ROLES };
 
 struct call {
     enum kind kind;
-    uint64_t B, d, r, t, n; /* of a set-up; positions takes r, d and n */
-    uint64_t m;             /* the block number of an update or a deletion */
+    uint64_t version, B, d, r, t, n; /* of a set-up; positions takes r, d and n */
+    uint64_t m;                      /* the block number of an update or a deletion */
     struct buffer lent[ROLES];
 };
 

@@ -1,9 +1,11 @@
 /* See fault_list.h. */
 #include "fault_list.h"
 
-/* What a fault alters: the length of a buffer, which is named by its role, a number, a field of card, message or items, or record 2. */
+/* What a fault alters: the length of a buffer, which is named by its role, a number, a field of card, message or items, a
+ * mark, or record 2. */
 enum target {
-    NUMBER_B = ROLES,
+    NUMBER_VERSION = ROLES,
+    NUMBER_B,
     NUMBER_D,
     NUMBER_R,
     NUMBER_T,
@@ -26,53 +28,61 @@ enum target {
     MESSAGE_D,
     MESSAGE_R,
     MESSAGE_N,
+    FIRST_MARK,
+    LAST_MARK,
     FIRST_KIND,
     LAST_KIND,
     FIRST_NUMBER,
     MIDDLE_NUMBER,
     LAST_NUMBER,
+    FIRST_ITEM_MARK,
+    LAST_ITEM_MARK,
     TAG_OF_RECORD_2,
     TARGETS
 };
 
 #define LENGTH_OF(role) ((enum target)(role))
 
-/* A field of the items, which are three. */
-#define ITEM(item, offset, width) {ITEMS, (item) * LEGBARO_ITEM_BYTES(B) + (offset), width}
-
+/* Where a field is; of items, which are three, in which of them. */
 static const struct {
     enum role role;
-    size_t at;
+    size_t item, at;
     unsigned width;
 } fields[TARGETS] = {
-    [CARD_LENGTH] = {CARD, 0, 2},
-    [CARD_VERSION] = {CARD, 2, 1},
-    [CARD_B] = {CARD, LEGBARO_CARD_BLOCK_BYTES, 2},
-    [CARD_D] = {CARD, LEGBARO_CARD_ROWS, 4},
-    [CARD_R] = {CARD, LEGBARO_CARD_POSITIONS, 2},
-    [CARD_T] = {CARD, LEGBARO_CARD_TOKENS, 4},
-    [CARD_N] = {CARD, LEGBARO_CARD_BLOCKS, 4},
-    [CARD_CTR] = {CARD, LEGBARO_CARD_COUNTER, 8},
-    [CARD_NEXT] = {CARD, LEGBARO_CARD_NEXT, 4},
-    [CARD_OPEN] = {CARD, LEGBARO_CARD_OPEN, 4},
-    [MESSAGE_LENGTH] = {MESSAGE, 0, 2},
-    [MESSAGE_VERSION] = {MESSAGE, 2, 1},
-    [MESSAGE_I] = {MESSAGE, 11, 4},
-    [MESSAGE_B] = {MESSAGE, 15, 2},
-    [MESSAGE_D] = {MESSAGE, 17, 4},
-    [MESSAGE_R] = {MESSAGE, 21, 2},
-    [MESSAGE_N] = {MESSAGE, 23, 4},
-    [FIRST_KIND] = ITEM(0, LEGBARO_ITEM_KIND, 1),
-    [LAST_KIND] = ITEM(2, LEGBARO_ITEM_KIND, 1),
-    [FIRST_NUMBER] = ITEM(0, LEGBARO_ITEM_BLOCK, 4),
-    [MIDDLE_NUMBER] = ITEM(1, LEGBARO_ITEM_BLOCK, 4),
-    [LAST_NUMBER] = ITEM(2, LEGBARO_ITEM_BLOCK, 4),
+    [CARD_LENGTH] = {CARD, 0, 0, 2},
+    [CARD_VERSION] = {CARD, 0, 2, 1},
+    [CARD_B] = {CARD, 0, LEGBARO_CARD_BLOCK_BYTES, 2},
+    [CARD_D] = {CARD, 0, LEGBARO_CARD_ROWS, 4},
+    [CARD_R] = {CARD, 0, LEGBARO_CARD_POSITIONS, 2},
+    [CARD_T] = {CARD, 0, LEGBARO_CARD_TOKENS, 4},
+    [CARD_N] = {CARD, 0, LEGBARO_CARD_BLOCKS, 4},
+    [CARD_CTR] = {CARD, 0, LEGBARO_CARD_COUNTER, 8},
+    [CARD_NEXT] = {CARD, 0, LEGBARO_CARD_NEXT, 4},
+    [CARD_OPEN] = {CARD, 0, LEGBARO_CARD_OPEN, 4},
+    [MESSAGE_LENGTH] = {MESSAGE, 0, 0, 2},
+    [MESSAGE_VERSION] = {MESSAGE, 0, 2, 1},
+    [MESSAGE_I] = {MESSAGE, 0, 11, 4},
+    [MESSAGE_B] = {MESSAGE, 0, 15, 2},
+    [MESSAGE_D] = {MESSAGE, 0, 17, 4},
+    [MESSAGE_R] = {MESSAGE, 0, 21, 2},
+    [MESSAGE_N] = {MESSAGE, 0, 23, 4},
+    [FIRST_MARK] = {MARKS, 0, 0, 1},
+    [LAST_MARK] = {MARKS, 0, NOW_N - 1, 1},
+    [FIRST_KIND] = {ITEMS, 0, LEGBARO_ITEM_KIND, 1},
+    [LAST_KIND] = {ITEMS, 2, LEGBARO_ITEM_KIND, 1},
+    [FIRST_NUMBER] = {ITEMS, 0, LEGBARO_ITEM_BLOCK, 4},
+    [MIDDLE_NUMBER] = {ITEMS, 1, LEGBARO_ITEM_BLOCK, 4},
+    [LAST_NUMBER] = {ITEMS, 2, LEGBARO_ITEM_BLOCK, 4},
+    [FIRST_ITEM_MARK] = {ITEMS, 0, LEGBARO_ITEM_MARK(B), 1},
+    [LAST_ITEM_MARK] = {ITEMS, 2, LEGBARO_ITEM_MARK(B), 1},
 };
 
 #define CHANGES (IN(UPDATE) | IN(DELETE) | IN(APPEND) | IN(LOAD) | IN(BATCH))
 #define READ_CARD (CHANGES | IN(DRAW) | IN(JUDGE))
 #define WITH_MASTER (IN(SET_UP) | READ_CARD)
 #define NUMBERS (IN(SET_UP) | IN(POSITIONS))
+#define WITH_MARKS (IN(UPDATE) | IN(DELETE) | IN(PROVE))
+#define MARKED IN_VERSION(LEGBARO_WITH_MARKS)
 
 /* Values with a meaning of their own: the token before next, whatever that is, for CARD_OPEN; and for the length of a buffer none,
  * one byte less, one byte more, one item more than a batch may have. */
@@ -84,6 +94,10 @@ enum { NO_BYTES, ONE_LESS, ONE_MORE, ONE_ITEM_TOO_MANY };
 
 /* `next` stands before `open`, and lengths are last. */
 const struct fault faults[] = {
+    {IN(SET_UP), LIMITS, NUMBER_VERSION, 0},
+    {IN(SET_UP), LIMITS, NUMBER_VERSION, 3},
+    {IN(SET_UP), LIMITS, NUMBER_VERSION, 256 + LEGBARO_WITH_MARKS},
+    {IN(SET_UP), LIMITS, NUMBER_VERSION, UINT64_MAX},
     {IN(SET_UP), LIMITS, NUMBER_B, 0},
     {IN(SET_UP), LIMITS, NUMBER_B, LEGBARO_MOST_BLOCK_BYTES + 1},
     {IN(SET_UP), LIMITS, NUMBER_B, UINT64_MAX},
@@ -111,7 +125,8 @@ const struct fault faults[] = {
     {READ_CARD, HEADER, CARD_LENGTH, LEGBARO_CARD_BYTES - 3},
     {READ_CARD, HEADER, CARD_LENGTH, LEGBARO_CARD_BYTES},
     {READ_CARD, HEADER, CARD_VERSION, 0},
-    {READ_CARD, HEADER, CARD_VERSION, 2},
+    {READ_CARD, HEADER, CARD_VERSION, 3},
+    {READ_CARD, HEADER, CARD_VERSION, UINT8_MAX},
     {READ_CARD, LIMITS, CARD_B, 0},
     {READ_CARD, LIMITS, CARD_B, LEGBARO_MOST_BLOCK_BYTES + 1},
     {READ_CARD, LIMITS, CARD_D, 0},
@@ -138,7 +153,8 @@ const struct fault faults[] = {
     {IN(PROVE), HEADER, MESSAGE_LENGTH, 0},
     {IN(PROVE), HEADER, MESSAGE_LENGTH, LEGBARO_MESSAGE_BYTES},
     {IN(PROVE), HEADER, MESSAGE_VERSION, 0},
-    {IN(PROVE), HEADER, MESSAGE_VERSION, 2},
+    {IN(PROVE), HEADER, MESSAGE_VERSION, 3},
+    {IN(PROVE), HEADER, MESSAGE_VERSION, UINT8_MAX},
     {IN(PROVE), LIMITS, MESSAGE_I, 0},
     {IN(PROVE), LIMITS, MESSAGE_I, LEGBARO_MOST_TOKENS + 1},
     {IN(PROVE), LIMITS, MESSAGE_B, 0},
@@ -149,6 +165,9 @@ const struct fault faults[] = {
     {IN(PROVE), LIMITS, MESSAGE_R, D + 1},
     {IN(PROVE), LIMITS, MESSAGE_N, 0},
     {IN(PROVE), LIMITS, MESSAGE_N, LEGBARO_MOST_BLOCKS + 1},
+    {WITH_MARKS | MARKED, MARK, FIRST_MARK, 2},
+    {WITH_MARKS | MARKED, MARK, FIRST_MARK, UINT8_MAX},
+    {IN(PROVE) | MARKED, MARK, LAST_MARK, 2},
     {IN(BATCH), ITEMS_FIT, FIRST_KIND, 0},
     {IN(BATCH), ITEMS_FIT, FIRST_KIND, 3},
     {IN(BATCH), ITEMS_FIT, LAST_KIND, 0},
@@ -161,6 +180,8 @@ const struct fault faults[] = {
     {IN(BATCH), ITEMS_FIT, LAST_NUMBER, MIDDLE_ITEM},
     {IN(BATCH), BLOCK_NUMBER, LAST_NUMBER, NOW_N + 1},
     {IN(BATCH), BLOCK_NUMBER, LAST_NUMBER, UINT32_MAX},
+    {IN(BATCH) | MARKED, ITEM_MARKS, FIRST_ITEM_MARK, 2},
+    {IN(BATCH) | MARKED, ITEM_MARKS, LAST_ITEM_MARK, UINT8_MAX},
     {CHANGES, RECORDS, TAG_OF_RECORD_2, 0},
     WRONG_LENGTH(WITH_MASTER, FIXED_SIZE, MASTER),
     WRONG_LENGTH(WITH_MASTER, FIXED_SIZE, CARD),
@@ -171,6 +192,8 @@ const struct fault faults[] = {
     WRONG_LENGTH(IN(SET_UP) | CHANGES, SIZE, TABLE),
     TOO_SHORT(IN(PROVE), SIZE, TABLE),
     WRONG_LENGTH(IN(UPDATE) | IN(DELETE), SIZE, OLD),
+    TOO_SHORT(WITH_MARKS | MARKED, SIZE, MARKS),
+    {WITH_MARKS, SIZE, LENGTH_OF(MARKS), ONE_MORE},
     WRONG_LENGTH(IN(UPDATE) | IN(APPEND), SIZE, NEW),
     WRONG_LENGTH(IN(LOAD), WHOLE_BLOCKS, BLOCKS),
     WRONG_LENGTH(IN(BATCH), ITEMS_FIT, ITEMS),
@@ -180,35 +203,42 @@ const struct fault faults[] = {
 
 const int fault_count = sizeof faults / sizeof *faults;
 
-static void make_length_fault(struct buffer *b, uint64_t value)
+int fault_has(const struct fault *fault, enum kind kind, uint64_t version)
+{
+    unsigned versions = fault->kinds >> KINDS;
+    return (fault->kinds & IN(kind)) && (!versions || fault->kinds & IN_VERSION(version));
+}
+
+static void make_length_fault(struct buffer *b, uint64_t value, uint64_t version)
 {
     size_t lengths[] = {[NO_BYTES] = 0,
                         [ONE_LESS] = b->length - 1,
                         [ONE_MORE] = b->length + 1,
-                        [ONE_ITEM_TOO_MANY] = (LEGBARO_MOST_ITEMS + 1) * LEGBARO_ITEM_BYTES(B)};
+                        [ONE_ITEM_TOO_MANY] = (LEGBARO_MOST_ITEMS + 1) * LEGBARO_ITEM_BYTES(version, B)};
     buffer_resize(b, lengths[value]);
 }
 
-static void make_field_fault(struct call *call, const struct fault *fault)
+static void make_field_fault(struct call *call, const struct fault *fault, uint64_t version)
 {
     struct buffer *b = &call->lent[fields[fault->target].role];
     uint64_t value = fault->value;
     if (fault->target == CARD_OPEN && value == BEFORE_NEXT)
         value = buffer_number(b, LEGBARO_CARD_NEXT, 4) - 1;
-    buffer_put_number(b, fields[fault->target].at, fields[fault->target].width, value);
+    size_t at = fields[fault->target].item * LEGBARO_ITEM_BYTES(version, B) + fields[fault->target].at;
+    buffer_put_number(b, at, fields[fault->target].width, value);
 }
 
-void fault_make(struct call *call, const struct fault *fault)
+void fault_make(struct call *call, const struct fault *fault, uint64_t version)
 {
-    uint64_t *const numbers[] = {&call->B, &call->d, &call->r, &call->t, &call->n, &call->m};
+    uint64_t *const numbers[] = {&call->version, &call->B, &call->d, &call->r, &call->t, &call->n, &call->m};
     if (fault->target < LENGTH_OF(ROLES))
-        make_length_fault(&call->lent[fault->target], fault->value);
+        make_length_fault(&call->lent[fault->target], fault->value, version);
     else if (fault->target <= NUMBER_M)
-        *numbers[fault->target - NUMBER_B] = fault->value;
+        *numbers[fault->target - NUMBER_VERSION] = fault->value;
     else if (fault->target == TAG_OF_RECORD_2)
         buffer_flip(&call->lent[TABLE], 8 * (2 * LEGBARO_RECORD_BYTES - 1));
     else
-        make_field_fault(call, fault);
+        make_field_fault(call, fault, version);
 }
 
 uint64_t fault_number(enum place place, enum kind kind)
@@ -219,9 +249,11 @@ uint64_t fault_number(enum place place, enum kind kind)
         [LIMITS] = LEGBARO_OUT_OF_LIMITS,
         [POSITIONS_GIVEN] = LEGBARO_TOO_MANY_POSITIONS,
         [SIZE] = LEGBARO_WRONG_LENGTH,
+        [MARK] = LEGBARO_BAD_MARK,
         [OPEN_OR_NOT] = kind == JUDGE ? LEGBARO_NONE_OPEN : LEGBARO_TOKEN_OPEN,
         [TOKENS_LEFT] = LEGBARO_NO_TOKEN_LEFT,
         [ITEMS_FIT] = LEGBARO_BAD_BATCH,
+        [ITEM_MARKS] = LEGBARO_BAD_MARK,
         [BLOCK_NUMBER] = LEGBARO_NO_SUCH_BLOCK,
         [WHOLE_BLOCKS] = LEGBARO_NOT_WHOLE_BLOCKS,
         [FULL] = LEGBARO_FILE_FULL,

@@ -13,16 +13,19 @@ enum { B = 28, D = 5, R = 3, T = 3, N = 4, NOW_N = N + 3, LOADED = 3, POSITIONS_
 enum { FIRST_ITEM = 2, MIDDLE_ITEM = 4, LAST_ITEM = 6 };
 
 /* "Order: 1 for buffers of fixed size, 2, 3, 1 for sizes that follow from fields, then 8 or 9, 6, 4, 5, 10, 7", and the verdict last; a
- * load's 12 "just before 5"; the helper's 13 "after 3"; a batch's 14 "just before 4". */
+ * load's 12 "just before 5"; the helper's 13 "after 3"; a batch's 14 "just before 4"; 15 "after the lengths that follow from fields", "in a
+ * batch straight after 14". */
 enum place {
     FIXED_SIZE,
     HEADER,
     LIMITS,
     POSITIONS_GIVEN,
     SIZE,
+    MARK,
     OPEN_OR_NOT,
     TOKENS_LEFT,
     ITEMS_FIT,
+    ITEM_MARKS,
     BLOCK_NUMBER,
     WHOLE_BLOCKS,
     FULL,
@@ -31,7 +34,8 @@ enum place {
     VERDICT
 };
 
-/* A fault gives a target of its own a value, in calls of some kinds, a bit for each. */
+/* A fault gives a target of its own a value, in calls of some kinds, a bit for each. With the bits of versions too, only files of these
+ * have it. */
 struct fault {
     unsigned kinds;
     enum place place;
@@ -40,12 +44,15 @@ struct fault {
 };
 
 #define IN(kind) (1u << (kind))
+#define IN_VERSION(version) (1u << (KINDS + (version)))
 
 /* Two faults are made in the order of the list. */
 extern const struct fault faults[];
 extern const int fault_count;
 
-void fault_make(struct call *call, const struct fault *fault);
+/* Whether a call of a kind on a file of a version may have a fault; and makes it. */
+int fault_has(const struct fault *fault, enum kind kind, uint64_t version);
+void fault_make(struct call *call, const struct fault *fault, uint64_t version);
 
 /* The number that a call of a kind returns with a fault at this place and none at an earlier one. */
 uint64_t fault_number(enum place place, enum kind kind);

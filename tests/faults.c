@@ -5,13 +5,14 @@
 #include "files.h"
 #include "groups.h"
 
-/* Two files on which only a fault turns a call away. On `changing`, for changes and draws, token 1 is spent; on `judging`, for judgings
- * and proofs, token 2 is drawn. */
+/* Two files of one version on which only a fault turns a call away. On `changing`, for changes and draws, token 1 is spent; on `judging`,
+ * for judgings and proofs, token 2 is drawn. */
 static struct file changing, judging;
+static uint64_t version;
 
 static struct file prepared(void)
 {
-    struct file file = file_set_up(B, D, R, T, N);
+    struct file file = file_set_up(version, B, D, R, T, N);
     file_do(&file, APPEND);
     file_load(&file, 2);
     file_do(&file, DRAW);
@@ -24,7 +25,7 @@ static struct call faultless(enum kind kind)
 {
     static const uint64_t items[] = {FIRST_ITEM, MIDDLE_ITEM, LAST_ITEM};
     if (kind == SET_UP)
-        return file_set_up_call(B, D, R, T, N);
+        return file_set_up_call(version, B, D, R, T, N);
     if (kind == POSITIONS)
         return (struct call){.kind = POSITIONS, .r = R, .d = D, .n = N};
     if (kind == LOAD)
@@ -40,42 +41,43 @@ static struct call faultless(enum kind kind)
 static void one_fault(enum kind kind, const struct fault *fault)
 {
     struct call call = faultless(kind);
-    fault_make(&call, fault);
+    fault_make(&call, fault, version);
     call_finish(&call, fault_number(fault->place, kind), "its only fault");
 }
 
 static void two_faults(enum kind kind, const struct fault *a, const struct fault *b)
 {
     struct call call = faultless(kind);
-    fault_make(&call, a);
-    fault_make(&call, b);
+    fault_make(&call, a, version);
+    fault_make(&call, b, version);
     call_finish(&call, fault_number(a->place < b->place ? a->place : b->place, kind), "the first of two faults");
 }
 
 static void every_fault(enum kind kind)
 {
-    group_begin("every fault of %s alone", call_name(kind));
+    group_begin("every fault of %s alone, version %llu", call_name(kind), (unsigned long long)version);
     struct call call = faultless(kind);
     call_finish(&call, LEGBARO_OK + 256 * (kind == POSITIONS ? POSITIONS_ANSWER : 0), "no fault");
     for (int a = 0; a < fault_count; a++)
-        if (faults[a].kinds & IN(kind))
+        if (fault_has(&faults[a], kind, version))
             one_fault(kind, &faults[a]);
     group_end();
 }
 
 static void every_two_faults(enum kind kind)
 {
-    group_begin("every two faults of %s in their order", call_name(kind));
+    group_begin("every two faults of %s in their order, version %llu", call_name(kind), (unsigned long long)version);
     for (int a = 0; a < fault_count; a++)
         for (int b = a + 1; b < fault_count; b++)
-            if ((faults[a].kinds & faults[b].kinds & IN(kind)) && faults[a].target != faults[b].target)
+            if (fault_has(&faults[a], kind, version) && fault_has(&faults[b], kind, version) &&
+                faults[a].target != faults[b].target)
                 two_faults(kind, &faults[a], &faults[b]);
     group_end();
 }
 
-void test_faults(void)
+static void version_faults(void)
 {
-    group_begin("files for the faults");
+    group_begin("files of version %llu for the faults", (unsigned long long)version);
     changing = prepared();
     judging = prepared();
     file_do(&judging, DRAW);
@@ -86,4 +88,10 @@ void test_faults(void)
     }
     file_end(&changing);
     file_end(&judging);
+}
+
+void test_faults(void)
+{
+    for (version = FIRST_VERSION; version <= LAST_VERSION; version++)
+        version_faults();
 }

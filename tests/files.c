@@ -17,9 +17,14 @@ static struct buffer any_bytes(size_t length)
     return b;
 }
 
-struct call file_set_up_call(uint64_t B, uint64_t d, uint64_t r, uint64_t t, uint64_t n)
+uint64_t any_version(void)
 {
-    struct call call = {.kind = SET_UP, .B = B, .d = d, .r = r, .t = t, .n = n};
+    return FIRST_VERSION + chance_below(LAST_VERSION + 1 - FIRST_VERSION);
+}
+
+struct call file_set_up_call(uint64_t version, uint64_t B, uint64_t d, uint64_t r, uint64_t t, uint64_t n)
+{
+    struct call call = {.kind = SET_UP, .version = version, .B = B, .d = d, .r = r, .t = t, .n = n};
     call.lent[MASTER] = any_bytes(LEGBARO_MASTER_BYTES);
     call.lent[ID] = any_bytes(LEGBARO_ID_BYTES);
     call.lent[BLOCKS] = any_bytes(n * B);
@@ -41,9 +46,9 @@ struct file file_of(const struct call *set_up)
     return file;
 }
 
-struct file file_set_up(uint64_t B, uint64_t d, uint64_t r, uint64_t t, uint64_t n)
+struct file file_set_up(uint64_t version, uint64_t B, uint64_t d, uint64_t r, uint64_t t, uint64_t n)
 {
-    struct call call = file_set_up_call(B, d, r, t, n);
+    struct call call = file_set_up_call(version, B, d, r, t, n);
     struct file file = file_of(&call);
     call_free(&call);
     return file;
@@ -64,6 +69,12 @@ static struct buffer current_blocks(const struct file *file)
     return buffer_of(file->book.blocks, file->book.numbers.n * file->book.numbers.B);
 }
 
+/* The marks from block m on, so many, in version 2; none in version 1. */
+static struct buffer current_marks(const struct file *file, uint64_t m, uint64_t count)
+{
+    return buffer_of(book_mark(&file->book, m), file->book.numbers.version == LEGBARO_WITHOUT_MARKS ? 0 : count);
+}
+
 /* The host's reply to the message drawn last, which is made where a token is open, and else blank. */
 static struct buffer honest_reply(const struct file *file)
 {
@@ -77,19 +88,21 @@ static struct buffer honest_reply(const struct file *file)
 
 size_t file_item_at(const struct file *file, size_t item, size_t offset)
 {
-    return item * LEGBARO_ITEM_BYTES(file->book.numbers.B) + offset;
+    return item * LEGBARO_ITEM_BYTES(file->book.numbers.version, file->book.numbers.B) + offset;
 }
 
 /* Items on these blocks: each an update or a deletion, as it comes. */
 static struct buffer items_of(const struct file *file, const uint64_t *blocks, size_t count)
 {
     uint64_t B = file->book.numbers.B;
-    struct buffer items = any_bytes(count * LEGBARO_ITEM_BYTES(B));
+    struct buffer items = any_bytes(file_item_at(file, count, 0));
     for (size_t e = 0; e < count; e++) {
         buffer_put_number(&items, file_item_at(file, e, LEGBARO_ITEM_KIND), 1,
                           chance_of(2) ? LEGBARO_ITEM_UPDATE : LEGBARO_ITEM_DELETE);
         buffer_put_number(&items, file_item_at(file, e, LEGBARO_ITEM_BLOCK), 4, blocks[e]);
         memcpy(items.bytes + file_item_at(file, e, LEGBARO_ITEM_OLD), book_block(&file->book, blocks[e]), B);
+        if (file->book.numbers.version != LEGBARO_WITHOUT_MARKS)
+            items.bytes[file_item_at(file, e, LEGBARO_ITEM_MARK(B))] = *book_mark(&file->book, blocks[e]);
     }
     return items;
 }
@@ -126,6 +139,8 @@ struct call file_call(const struct file *file, enum kind kind)
         call.lent[BLOCKS] = kind == LOAD ? any_bytes((1 + chance_below(A_FEW)) * numbers->B) : current_blocks(file);
     if (call_takes(kind, OLD))
         call.lent[OLD] = buffer_of(book_block(&file->book, call.m), numbers->B);
+    if (call_takes(kind, MARKS))
+        call.lent[MARKS] = kind == PROVE ? current_marks(file, 1, numbers->n) : current_marks(file, call.m, 1);
     if (call_takes(kind, NEW))
         call.lent[NEW] = any_bytes(numbers->B);
     if (call_takes(kind, ITEMS))

@@ -11,24 +11,27 @@ struct file {
     struct buffer message; /* the one drawn last; blank before the first draw */
 };
 
+/* Any of the versions. */
+uint64_t any_version(void);
+
 /* A set-up with random master, id and blocks. */
-struct call file_set_up_call(uint64_t B, uint64_t d, uint64_t r, uint64_t t, uint64_t n);
+struct call file_set_up_call(uint64_t version, uint64_t B, uint64_t d, uint64_t r, uint64_t t, uint64_t n);
 
 /* The file of a set-up, which is compared and expected to be accepted; that of such a set-up; and its end. */
 struct file file_of(const struct call *set_up);
-struct file file_set_up(uint64_t B, uint64_t d, uint64_t r, uint64_t t, uint64_t n);
+struct file file_set_up(uint64_t version, uint64_t B, uint64_t d, uint64_t r, uint64_t t, uint64_t n);
 void file_end(struct file *file);
 
-/* A call on the file with nothing wrong in its arguments: a change has a block number that exists, present bytes and a random new block, a
- * load a few random blocks, a batch a few items, a proof the message drawn last and the current blocks, a judging the reply of such a
- * proof. The state may still turn it away. */
+/* A call on the file with nothing wrong in its arguments: a change has a block number that exists, present bytes and mark, and a random new
+ * block, a load a few random blocks, a batch a few items, a proof the message drawn last and the current blocks and marks, a judging the
+ * reply of such a proof. The state may still turn it away. */
 struct call file_call(const struct file *file, enum kind kind);
 
 /* A load of so many random blocks. */
 struct call file_load_call(const struct file *file, uint64_t blocks);
 
-/* A batch of updates and deletions, present bytes and random new blocks: of so many blocks, at most one more than a batch may have and
- * no more than the file has, or of these blocks. A place in an item, counted from 0, where LEGBARO_ITEM_.. is the offset. */
+/* A batch of updates and deletions, present bytes and marks and random new blocks: of so many blocks, at most one more than a batch may
+ * have and no more than the file has, or of these blocks. A place in an item, counted from 0, where LEGBARO_ITEM_.. is the offset. */
 struct call file_batch_call(const struct file *file, size_t items);
 struct call file_batch_of(const struct file *file, const uint64_t *blocks, size_t items);
 size_t file_item_at(const struct file *file, size_t item, size_t offset);

@@ -33,20 +33,20 @@ static void follow_book(struct file *file)
     book_table(&file->book, file->table.bytes);
 }
 
-static void most_rows(void)
+static void most_rows(uint64_t version)
 {
-    group_begin("the most rows and positions");
-    struct file file = file_set_up(1, LEGBARO_MOST_ROWS, LEGBARO_MOST_POSITIONS, 2, LEGBARO_MOST_ROWS);
+    group_begin("the most rows and positions, version %llu", (unsigned long long)version);
+    struct file file = file_set_up(version, 1, LEGBARO_MOST_ROWS, LEGBARO_MOST_POSITIONS, 2, LEGBARO_MOST_ROWS);
     round_of_calls(&file);
     file_end(&file);
     group_end();
 }
 
-static void most_block_bytes(void)
+static void most_block_bytes(uint64_t version)
 {
-    group_begin("the most bytes in a block");
-    struct file file =
-        file_set_up(LEGBARO_MOST_BLOCK_BYTES, LEGBARO_MOST_POSITIONS + 1, LEGBARO_MOST_POSITIONS, 2, LEGBARO_MOST_POSITIONS);
+    group_begin("the most bytes in a block, version %llu", (unsigned long long)version);
+    struct file file = file_set_up(version, LEGBARO_MOST_BLOCK_BYTES, LEGBARO_MOST_POSITIONS + 1, LEGBARO_MOST_POSITIONS, 2,
+                                   LEGBARO_MOST_POSITIONS);
     file_batch(&file, LEGBARO_MOST_ITEMS);
     round_of_calls(&file);
     file_end(&file);
@@ -54,10 +54,10 @@ static void most_block_bytes(void)
 }
 
 /* All but the last token are spent by hand: their records are those of the set-up. */
-static void most_tokens(void)
+static void most_tokens(uint64_t version)
 {
-    group_begin("the most tokens");
-    struct file file = file_set_up(1, 2, 2, LEGBARO_MOST_TOKENS, 2);
+    group_begin("the most tokens, version %llu", (unsigned long long)version);
+    struct file file = file_set_up(version, 1, 2, 2, LEGBARO_MOST_TOKENS, 2);
     memcpy(file.book.spent, file.table.bytes, file.table.length);
     file_do(&file, UPDATE);
     file_expect_book(&file);
@@ -100,11 +100,11 @@ static void full(struct file *file)
 }
 
 /* Set up with all but a few blocks, and filled by appends and loads; a load one past the most is turned away. */
-static void most_blocks(void)
+static void most_blocks(uint64_t version)
 {
     enum { LEFT = 50 };
-    group_begin("the most blocks, filled by loads");
-    struct file file = file_set_up(1, LEGBARO_MOST_ROWS, LEGBARO_MOST_POSITIONS, 2, LEGBARO_MOST_BLOCKS - LEFT);
+    group_begin("the most blocks, filled by loads, version %llu", (unsigned long long)version);
+    struct file file = file_set_up(version, 1, LEGBARO_MOST_ROWS, LEGBARO_MOST_POSITIONS, 2, LEGBARO_MOST_BLOCKS - LEFT);
     load_refused(&file, LEFT + 1, LEGBARO_FILE_FULL);
     file_do(&file, APPEND);
     file_load(&file, LEFT - 3);
@@ -116,22 +116,22 @@ static void most_blocks(void)
 }
 
 /* Set up with the most blocks; with one more it is turned away. */
-static void most_blocks_at_once(void)
+static void most_blocks_at_once(uint64_t version)
 {
-    group_begin("the most blocks at set-up");
-    struct file file = file_set_up(1, LEGBARO_MOST_ROWS, LEGBARO_MOST_POSITIONS, 2, LEGBARO_MOST_BLOCKS);
+    group_begin("the most blocks at set-up, version %llu", (unsigned long long)version);
+    struct file file = file_set_up(version, 1, LEGBARO_MOST_ROWS, LEGBARO_MOST_POSITIONS, 2, LEGBARO_MOST_BLOCKS);
     full(&file);
     file_end(&file);
-    struct call call = file_set_up_call(1, 2, 2, 1, LEGBARO_MOST_BLOCKS + 1);
+    struct call call = file_set_up_call(version, 1, 2, 2, 1, LEGBARO_MOST_BLOCKS + 1);
     call_finish(&call, LEGBARO_OUT_OF_LIMITS, "one block above the most");
     group_end();
 }
 
 /* A file planned for the most rows, with one block, then all other rows in one load. */
-static void most_rows_loaded(void)
+static void most_rows_loaded(uint64_t version)
 {
-    group_begin("the most rows, all but one filled by one load");
-    struct file file = file_set_up(1, LEGBARO_MOST_ROWS, LEGBARO_MOST_POSITIONS, 2, 1);
+    group_begin("the most rows, all but one filled by one load, version %llu", (unsigned long long)version);
+    struct file file = file_set_up(version, 1, LEGBARO_MOST_ROWS, LEGBARO_MOST_POSITIONS, 2, 1);
     round_of_calls(&file);
     file_load(&file, LEGBARO_MOST_ROWS - file.book.numbers.n);
     file_do(&file, DRAW);
@@ -141,10 +141,10 @@ static void most_rows_loaded(void)
     group_end();
 }
 
-static void most_counter(void)
+static void most_counter(uint64_t version)
 {
-    group_begin("the most counter");
-    struct file file = file_set_up(28, 5, 3, 3, 4);
+    group_begin("the most counter, version %llu", (unsigned long long)version);
+    struct file file = file_set_up(version, 28, 5, 3, 3, 4);
     file.book.numbers.ctr = LEGBARO_MOST_COUNTER - 1;
     follow_book(&file);
     file_do(&file, APPEND);
@@ -162,11 +162,13 @@ static void most_counter(void)
 
 void test_limits(void)
 {
-    most_rows();
-    most_block_bytes();
-    most_tokens();
-    most_rows_loaded();
-    most_blocks();
-    most_blocks_at_once();
-    most_counter();
+    for (uint64_t version = FIRST_VERSION; version <= LAST_VERSION; version++) {
+        most_rows(version);
+        most_block_bytes(version);
+        most_tokens(version);
+        most_rows_loaded(version);
+        most_blocks(version);
+        most_blocks_at_once(version);
+        most_counter(version);
+    }
 }

@@ -8,7 +8,7 @@
 enum { LONGEST = 40, MOST_TOKENS = 6, MOST_LOADED = 40 };
 
 static const uint64_t rows[] = {1, 2, 4, 5, 16, 17};
-static const uint64_t block_bytes[] = {1, 27, 28, 91, 92, 4096};
+static const uint64_t block_bytes[] = {1, 26, 27, 28, 90, 91, 92, 4096};
 
 #define COUNT(array) (sizeof(array) / sizeof *(array))
 
@@ -33,13 +33,22 @@ static uint64_t no_such_block(const struct file *file)
     return numbers[chance_below(COUNT(numbers))];
 }
 
-/* An item that no batch may have: of another kind, or with a block number that the file does not have or the item before has. */
+/* A byte that is no mark. */
+static uint64_t no_mark(void)
+{
+    return LEGBARO_DELETED + 1 + chance_below(UINT8_MAX - LEGBARO_DELETED);
+}
+
+/* An item that no batch may have: of another kind, with a mark that is none, or with a block number that the file does not have or the item
+ * before has. */
 static void disturb_item(const struct file *file, struct buffer *items)
 {
-    size_t count = items->length / LEGBARO_ITEM_BYTES(file->book.numbers.B), e = chance_below(count);
+    size_t count = items->length / file_item_at(file, 1, 0), e = chance_below(count);
     size_t kind = file_item_at(file, e, LEGBARO_ITEM_KIND), block = file_item_at(file, e, LEGBARO_ITEM_BLOCK);
     uint64_t none[] = {0, file->book.numbers.n + 1, UINT32_MAX, file->book.numbers.n + 1 + chance_below(1000)};
-    if (chance_of(3))
+    if (file->book.numbers.version != LEGBARO_WITHOUT_MARKS && chance_of(4))
+        buffer_put_number(items, file_item_at(file, e, LEGBARO_ITEM_MARK(file->book.numbers.B)), 1, no_mark());
+    else if (chance_of(3))
         buffer_put_number(items, kind, 1, LEGBARO_ITEM_DELETE + 1 + chance_below(254 - LEGBARO_ITEM_DELETE));
     else if (e > 0 && chance_of(2))
         buffer_put_number(items, block, 4, buffer_number(items, file_item_at(file, e - 1, LEGBARO_ITEM_BLOCK), 4));
@@ -47,13 +56,15 @@ static void disturb_item(const struct file *file, struct buffer *items)
         buffer_put_number(items, block, 4, none[chance_below(COUNT(none))]);
 }
 
-/* Something wrong in what a list may hold: anything lent but card and table, the master's bytes and a block's present bytes. */
+/* Something wrong in what a list may hold: anything lent but card and table, the master's bytes and a block's present bytes and mark. */
 static void disturb(const struct file *file, struct call *call)
 {
-    static const enum role lent[] = {MASTER, OLD, NEW, BLOCKS, ITEMS, MESSAGE, REPLY};
+    static const enum role lent[] = {MASTER, OLD, MARKS, NEW, BLOCKS, ITEMS, MESSAGE, REPLY};
     enum role role = lent[chance_below(COUNT(lent))];
     if (call->kind == BATCH && chance_of(2))
         disturb_item(file, &call->lent[ITEMS]);
+    else if (call->lent[MARKS].length == 1 && chance_of(4))
+        call->lent[MARKS].bytes[0] = (uint8_t)no_mark();
     else if (chance_of(4))
         call->m = no_such_block(file);
     else if (call->kind == JUDGE && chance_of(2))
@@ -127,10 +138,10 @@ static uint64_t first_blocks(uint64_t d)
 }
 
 /* One list on a new file. */
-static void list(uint64_t B, uint64_t d, uint64_t t)
+static void list(uint64_t version, uint64_t B, uint64_t d, uint64_t t)
 {
     uint64_t r = chance_of(3) ? d : 1 + chance_below(d);
-    struct file file = file_set_up(B, d, r, t, first_blocks(d));
+    struct file file = file_set_up(version, B, d, r, t, first_blocks(d));
     for (uint64_t calls = chance_below(LONGEST + 1); calls; calls--) {
         if (chance_of(6))
             aside(&file);
@@ -144,10 +155,11 @@ void test_lists(unsigned lists)
 {
     for (size_t i = 0; i < COUNT(rows); i++) {
         unsigned share = lists / COUNT(rows);
-        group_begin("%u random lists of up to %d calls with d = %llu", share, LONGEST, (unsigned long long)rows[i]);
+        group_begin("%u random lists of up to %d calls with d = %llu, on both versions", share, LONGEST, (unsigned long long)rows[i]);
         for (unsigned j = 0; j < share; j++) {
-            uint64_t t = 1 + j / COUNT(block_bytes) % MOST_TOKENS;
-            list(block_bytes[j % COUNT(block_bytes)], rows[i], t);
+            uint64_t round = j / COUNT(block_bytes), t = 1 + round % MOST_TOKENS;
+            uint64_t version = (j + round + round / MOST_TOKENS) % 2 ? LEGBARO_WITHOUT_MARKS : LEGBARO_WITH_MARKS;
+            list(version, block_bytes[j % COUNT(block_bytes)], rows[i], t);
         }
         group_end();
     }

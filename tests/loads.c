@@ -9,8 +9,10 @@
 
 #define COUNT(array) (sizeof(array) / sizeof *(array))
 
-/* Blocks whose hashed bytes, 36 more, end around a SHA-256 block of 64 or around the last 8 of one; and the least and the most. */
-static const uint64_t block_bytes[] = {1, 19, 20, 27, 28, 29, 83, 84, 91, 92, 93, 147, 148, 183, LEGBARO_MOST_BLOCK_BYTES};
+/* Blocks whose hashed bytes, 36 more or with a mark 37, end around a SHA-256 block of 64 or around the last 8 of one; and the least and the
+ * most. */
+static const uint64_t block_bytes[] = {1,  18, 19, 20, 26, 27,  28,  29,  82,  83,
+                                       84, 90, 91, 92, 93, 146, 147, 148, 183, LEGBARO_MOST_BLOCK_BYTES};
 
 /* An audit of the file as it is, accepted. */
 static void audit(struct file *file)
@@ -23,7 +25,7 @@ static void audit(struct file *file)
 static void planned(uint64_t B, uint64_t d)
 {
     for (uint64_t n = 1; n <= 2 * d + 1; n++) {
-        struct file file = file_set_up(B, d, 1 + chance_below(d), 2, n);
+        struct file file = file_set_up(any_version(), B, d, 1 + chance_below(d), 2, n);
         audit(&file);
         file_do(&file, LOAD);
         audit(&file);
@@ -45,7 +47,7 @@ static void planned_rows(void)
 /* Loads of 1 to 40 blocks, one after the other, into d rows that are all drawn. */
 static void growing(uint64_t B, uint64_t d)
 {
-    struct file file = file_set_up(B, d, d, 2, 1 + chance_below(2 * d));
+    struct file file = file_set_up(any_version(), B, d, d, 2, 1 + chance_below(2 * d));
     for (uint64_t blocks = 1; blocks <= 40; blocks++)
         file_load(&file, blocks);
     audit(&file);
@@ -68,7 +70,7 @@ static void growing_loads(void)
 static void hundreds(uint64_t B, uint64_t d, uint64_t r)
 {
     static const uint64_t sizes[] = {39, 40, 41, 63, 64, 65, 195, 196, 197, 255, 256, 257, 511, 512, 513, 600, 1201};
-    struct file file = file_set_up(B, d, r, 2, 1 + chance_below(d));
+    struct file file = file_set_up(any_version(), B, d, r, 2, 1 + chance_below(d));
     for (size_t i = 0; i < COUNT(sizes); i++)
         file_load(&file, sizes[i]);
     audit(&file);
@@ -107,7 +109,7 @@ static void loads_of_one(void)
     group_begin("a load of one block writes what an append writes");
     for (size_t b = 0; b < COUNT(block_bytes); b++)
         for (uint64_t n = 1; n <= 12; n++) {
-            struct file file = file_set_up(block_bytes[b], 5, 1 + chance_below(5), 3, n);
+            struct file file = file_set_up(any_version(), block_bytes[b], 5, 1 + chance_below(5), 3, n);
             one_block(&file);
             audit(&file);
             one_block(&file);
@@ -142,7 +144,7 @@ static struct buffer drawn_reply(struct file *file)
 static void load_and_appends(uint64_t B, uint64_t d, uint64_t r, uint64_t n, uint64_t blocks)
 {
     enum { BEFORE_RECORD = LEGBARO_REPLY_BYTES - LEGBARO_RECORD_BYTES };
-    struct call again = file_set_up_call(B, d, r, 2, n);
+    struct call again = file_set_up_call(any_version(), B, d, r, 2, n);
     struct file loading = file_of(&again), appending = file_of(&again);
     struct call load = file_load_call(&loading, blocks);
     append_singly(&appending, &load.lent[BLOCKS]);
@@ -174,7 +176,7 @@ static void load_lengths(void)
 {
     enum { B = 5 };
     group_begin("every length of a load up to three blocks");
-    struct file file = file_set_up(B, 4, 4, 2, 3);
+    struct file file = file_set_up(any_version(), B, 4, 4, 2, 3);
     for (size_t length = 0; length <= 3 * B; length++) {
         struct call call = file_load_call(&file, 3);
         buffer_resize(&call.lent[BLOCKS], length);

@@ -58,6 +58,8 @@ int main(int count, char **words)
     test_bits();
     test_loads();
     test_batches();
+    test_versions();
+    test_marks();
     test_plans();
     test_lists(options.lists);
     if (!options.exact) {

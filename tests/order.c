@@ -72,9 +72,9 @@ static void expect_order(const char *name, const uint8_t *key, uint64_t d, uint6
 }
 
 /* A set-up of one token and a proof for it, over n blocks in d rows, r of them drawn. */
-static void order(uint64_t d, uint64_t r, uint64_t n)
+static void order(uint64_t version, uint64_t d, uint64_t r, uint64_t n)
 {
-    struct call set_up = file_set_up_call(PAGE, d, r, 1, n);
+    struct call set_up = file_set_up_call(version, PAGE, d, r, 1, n);
     struct call paged = call_copy(&set_up);
     struct file file = file_of(&set_up);
     file_do(&file, DRAW);
@@ -93,15 +93,17 @@ static void order(uint64_t d, uint64_t r, uint64_t n)
 void test_order(void)
 {
     group_begin("blocks are read position by position, from the newest column back to the oldest");
-    order(1, 1, 1);
-    order(1, 1, 40);
-    order(5, 3, 3);
-    order(5, 5, 5);
-    order(5, 5, 13);
-    order(7, 2, 100);
-    order(40, 40, 97);
-    order(64, 33, 500);
-    for (int i = 0; i < 20; i++)
-        order(9, 1, 9);
+    for (uint64_t version = FIRST_VERSION; version <= LAST_VERSION; version++) {
+        order(version, 1, 1, 1);
+        order(version, 1, 1, 40);
+        order(version, 5, 3, 3);
+        order(version, 5, 5, 5);
+        order(version, 5, 5, 13);
+        order(version, 7, 2, 100);
+        order(version, 40, 40, 97);
+        order(version, 64, 33, 500);
+        for (int i = 0; i < 20; i++)
+            order(version, 9, 1, 9);
+    }
     group_end();
 }

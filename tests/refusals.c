@@ -13,20 +13,23 @@ static void refused(const struct file *file, enum kind kind, uint64_t code, cons
     call_finish(&call, code, what);
 }
 
-/* Code 3's small input: d 5, r 6. And n 0. */
-static void outside_limits(void)
+/* Code 3's small input: d 5, r 6. And n 0, and a version that there is not. */
+static void outside_limits(uint64_t version)
 {
-    struct call call = file_set_up_call(B, 5, 6, T, 5);
+    struct call call = file_set_up_call(version, B, 5, 6, T, 5);
     call_finish(&call, LEGBARO_OUT_OF_LIMITS, "d 5, r 6");
 
-    call = file_set_up_call(B, D, R, T, 0);
+    call = file_set_up_call(version, B, D, R, T, 0);
     call_finish(&call, LEGBARO_OUT_OF_LIMITS, "n 0");
+
+    call = file_set_up_call(LAST_VERSION + 1, B, D, R, T, D);
+    call_finish(&call, LEGBARO_OUT_OF_LIMITS, "version 3");
 }
 
 /* Code 6's small input: t 1, one draw judged, draw. */
-static void last_token_drawn(void)
+static void last_token_drawn(uint64_t version)
 {
-    struct file file = file_set_up(B, D, R, 1, D);
+    struct file file = file_set_up(version, B, D, R, 1, D);
     file_do(&file, DRAW);
     file_do(&file, JUDGE);
     refused(&file, DRAW, LEGBARO_NO_TOKEN_LEFT, "t 1, one draw judged, draw");
@@ -62,7 +65,7 @@ static void two_items(const struct file *file, uint64_t second, uint64_t code, c
 /* Code 14's small inputs: no item, an item less or more a byte, another kind, numbers that do not rise. */
 static void broken_batches(const struct file *file)
 {
-    static const size_t lengths[] = {0, LEGBARO_ITEM_BYTES(B) - 1, LEGBARO_ITEM_BYTES(B) + 1};
+    size_t size = file_item_at(file, 1, 0), lengths[] = {0, size - 1, size + 1};
     for (size_t i = 0; i < sizeof lengths / sizeof *lengths; i++) {
         struct call call = file_batch_call(file, 1);
         buffer_resize(&call.lent[ITEMS], lengths[i]);
@@ -78,14 +81,38 @@ static void broken_batches(const struct file *file)
 }
 
 /* 64 items are taken, 65 are not. */
-static void most_items(void)
+static void most_items(uint64_t version)
 {
-    struct file file = file_set_up(B, D, R, T, LEGBARO_MOST_ITEMS + 1);
+    struct file file = file_set_up(version, B, D, R, T, LEGBARO_MOST_ITEMS + 1);
     struct call call = file_batch_call(&file, LEGBARO_MOST_ITEMS);
     call_finish(&call, LEGBARO_OK, "64 items");
     call = file_batch_call(&file, LEGBARO_MOST_ITEMS + 1);
     call_finish(&call, LEGBARO_BAD_BATCH, "65 items");
     file_end(&file);
+}
+
+/* Code 15's small inputs, which files of version 2 alone can have: a mark 2 in an update, in a deletion, in an item and in a proof. */
+static void broken_marks(const struct file *file)
+{
+    static const enum kind kinds[] = {UPDATE, DELETE};
+    if (file->book.numbers.version == LEGBARO_WITHOUT_MARKS)
+        return;
+    for (size_t i = 0; i < sizeof kinds / sizeof *kinds; i++) {
+        struct call call = file_call(file, kinds[i]);
+        call.lent[MARKS].bytes[0] = 2;
+        call_finish(&call, LEGBARO_BAD_MARK, "mark 2");
+    }
+    broken_item(file, LEGBARO_ITEM_MARK(B), 1, 2, LEGBARO_BAD_MARK, "an item with mark 2");
+}
+
+static void broken_proof_mark(const struct file *file)
+{
+    struct call call = file_call(file, PROVE);
+    if (call.lent[MARKS].length) {
+        call.lent[MARKS].bytes[D - 1] = 2;
+        call_expect(&call, LEGBARO_BAD_MARK, "mark 2");
+    }
+    call_free(&call);
 }
 
 /* Code 13's small input: one position, 513 planned rows, one block present. */
@@ -103,8 +130,8 @@ static void small_calls(struct file *file)
     call_finish(&call, LEGBARO_WRONG_LENGTH, "card of 42 bytes");
 
     call = file_call(file, DRAW);
-    call.lent[CARD].bytes[2] = 2;
-    call_finish(&call, LEGBARO_WRONG_HEADER, "card, version 2");
+    call.lent[CARD].bytes[LEGBARO_CARD_VERSION] = 0;
+    call_finish(&call, LEGBARO_WRONG_HEADER, "card, version 0");
 
     call = file_call(file, UPDATE);
     call.m = 0;
@@ -128,15 +155,17 @@ static void small_calls(struct file *file)
 
     broken_loads(file);
     broken_batches(file);
+    broken_marks(file);
     refused(file, JUDGE, LEGBARO_NONE_OPEN, "judge after set-up");
     file_do(file, DRAW);
     refused(file, APPEND, LEGBARO_TOKEN_OPEN, "draw, append");
+    broken_proof_mark(file);
 }
 
 /* A file of one block in many rows: set up, changed, drawn and judged. */
-static void one_block(void)
+static void one_block(uint64_t version)
 {
-    struct file file = file_set_up(B, D, R, T, 1);
+    struct file file = file_set_up(version, B, D, R, T, 1);
     file_do(&file, UPDATE);
     file_do(&file, DELETE);
     file_do(&file, BATCH);
@@ -148,12 +177,12 @@ static void one_block(void)
 }
 
 /* What is taken: r 5 with d 5; t = 1 allows one draw; n from 1; for a proof, a table that is just long enough or longer; 512 positions. */
-static void taken(void)
+static void taken(uint64_t version)
 {
     struct call call = {.kind = POSITIONS, .r = 1, .d = LEGBARO_MOST_POSITIONS, .n = 1};
     call_finish(&call, LEGBARO_OK + 256 * LEGBARO_MOST_POSITIONS, "512 positions");
-    one_block();
-    struct file file = file_set_up(B, 5, 5, 1, 5);
+    one_block(version);
+    struct file file = file_set_up(version, B, 5, 5, 1, 5);
     file_do(&file, DRAW);
     for (size_t longer = 0; longer <= 2; longer++) {
         call = file_call(&file, PROVE);
@@ -164,21 +193,22 @@ static void taken(void)
     file_end(&file);
 }
 
-static void small_inputs(void)
+static void small_inputs(uint64_t version)
 {
-    group_begin("each refusal's small input");
-    struct file file = file_set_up(B, D, R, T, D);
+    group_begin("each refusal's small input, version %llu", (unsigned long long)version);
+    struct file file = file_set_up(version, B, D, R, T, D);
     small_calls(&file);
     file_end(&file);
-    outside_limits();
+    outside_limits(version);
     too_many_positions();
-    most_items();
-    last_token_drawn();
-    taken();
+    most_items(version);
+    last_token_drawn(version);
+    taken(version);
     group_end();
 }
 
 void test_refusals(void)
 {
-    small_inputs();
+    for (uint64_t version = FIRST_VERSION; version <= LAST_VERSION; version++)
+        small_inputs(version);
 }

@@ -8,12 +8,12 @@
 #define RUN(before, behind)                                                                                                    \
     switch (call->kind) {                                                                                                      \
     case SET_UP:                                                                                                               \
-        return before##_set_up##behind(LENT(MASTER), LENT(ID), call->B, call->d, call->r, call->t, call->n, LENT(BLOCKS),      \
-                                       LENT(CARD), LENT(TABLE));                                                               \
+        return before##_set_up##behind(LENT(MASTER), LENT(ID), call->version, call->B, call->d, call->r, call->t, call->n,     \
+                                       LENT(BLOCKS), LENT(CARD), LENT(TABLE));                                                 \
     case UPDATE:                                                                                                               \
-        return before##_update##behind(LENT(MASTER), LENT(CARD), LENT(TABLE), call->m, LENT(OLD), LENT(NEW));                  \
+        return before##_update##behind(LENT(MASTER), LENT(CARD), LENT(TABLE), call->m, LENT(OLD), LENT(MARKS), LENT(NEW));     \
     case DELETE:                                                                                                               \
-        return before##_delete##behind(LENT(MASTER), LENT(CARD), LENT(TABLE), call->m, LENT(OLD));                             \
+        return before##_delete##behind(LENT(MASTER), LENT(CARD), LENT(TABLE), call->m, LENT(OLD), LENT(MARKS));                \
     case APPEND:                                                                                                               \
         return before##_append##behind(LENT(MASTER), LENT(CARD), LENT(TABLE), LENT(NEW));                                      \
     case LOAD:                                                                                                                 \
@@ -25,7 +25,7 @@
     case JUDGE:                                                                                                                \
         return before##_judge##behind(LENT(MASTER), LENT(CARD), LENT(REPLY));                                                  \
     case PROVE:                                                                                                                \
-        return before##_prove##behind(LENT(MESSAGE), LENT(BLOCKS), LENT(TABLE), LENT(REPLY));                                  \
+        return before##_prove##behind(LENT(MESSAGE), LENT(BLOCKS), LENT(MARKS), LENT(TABLE), LENT(REPLY));                     \
     default:                                                                                                                   \
         return before##_positions##behind(call->r, call->d, call->n);                                                          \
     }

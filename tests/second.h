@@ -21,15 +21,16 @@
 
 #include "legbaro.h"
 
-enum { TOKEN_BYTES = 32 };
+enum { TOKEN_BYTES = 32, FIRST_VERSION = 1, LAST_VERSION = 2 };
 
 struct card {
+    uint64_t version;
     uint8_t id[LEGBARO_ID_BYTES];
     uint64_t B, d, r, t, n, ctr, next, open;
 };
 
-/* An update and a deletion have a block number and an old block; an update and an append a new block, a load new blocks end to end; a batch
- * has its items end to end. */
+/* An update and a deletion have a block number, an old block and its mark; an update and an append a new block, a load new blocks end to
+ * end; a batch has its items end to end. */
 enum edit_kind { EDIT_UPDATE, EDIT_DELETE, EDIT_APPEND, EDIT_LOAD, EDIT_BATCH };
 
 struct edit {
@@ -37,6 +38,8 @@ struct edit {
     uint64_t m;
     const uint8_t *old_block;
     size_t old_length;
+    const uint8_t *mark;
+    size_t mark_length;
     const uint8_t *new_blocks;
     size_t new_length;
     const uint8_t *items;
@@ -45,7 +48,7 @@ struct edit {
 
 struct item {
     uint64_t kind, m;
-    const uint8_t *old_block, *new_block;
+    const uint8_t *old_block, *mark, *new_block; /* no mark, null, in version 1 */
 };
 
 void second_start(void);
@@ -53,6 +56,7 @@ void second_end(void);
 
 uint64_t second_set_up(const uint8_t *master, size_t master_length,
                        const uint8_t *id, size_t id_length,
+                       uint64_t version,
                        uint64_t B, uint64_t d, uint64_t r, uint64_t t, uint64_t n,
                        const uint8_t *blocks, size_t blocks_length,
                        uint8_t *card, size_t card_length,
@@ -63,13 +67,15 @@ uint64_t second_update(const uint8_t *master, size_t master_length,
                        uint8_t *table, size_t table_length,
                        uint64_t m,
                        const uint8_t *old_block, size_t old_block_length,
+                       const uint8_t *mark, size_t mark_length,
                        const uint8_t *new_block, size_t new_block_length);
 
 uint64_t second_delete(const uint8_t *master, size_t master_length,
                        uint8_t *card, size_t card_length,
                        uint8_t *table, size_t table_length,
                        uint64_t m,
-                       const uint8_t *old_block, size_t old_block_length);
+                       const uint8_t *old_block, size_t old_block_length,
+                       const uint8_t *mark, size_t mark_length);
 
 uint64_t second_append(const uint8_t *master, size_t master_length,
                        uint8_t *card, size_t card_length,
@@ -96,6 +102,7 @@ uint64_t second_judge(const uint8_t *master, size_t master_length,
 
 uint64_t second_prove(const uint8_t *message, size_t message_length,
                       const uint8_t *blocks, size_t blocks_length,
+                      const uint8_t *marks, size_t marks_length,
                       const uint8_t *table, size_t table_length,
                       uint8_t *reply, size_t reply_length);
 
@@ -105,13 +112,14 @@ uint64_t second_positions(uint64_t r, uint64_t planned, uint64_t present);
 struct card second_read_card(const uint8_t *bytes);
 void second_write_card(uint8_t *bytes, const struct card *c);
 
-/* Writes records `first` to `last` of a table: each token over the card's n blocks, sealed at the card's counter. */
-void second_fresh_records(const uint8_t *master, const struct card *c, const uint8_t *blocks, uint64_t first, uint64_t last,
-                          uint8_t *table);
+/* Writes records `first` to `last` of a table: each token over the card's n blocks, with their marks in version 2, sealed at the card's
+ * counter. */
+void second_fresh_records(const uint8_t *master, const struct card *c, const uint8_t *blocks, const uint8_t *marks, uint64_t first,
+                          uint64_t last, uint8_t *table);
 
-/* Item e, from 0, of items for blocks of B bytes; how many bytes each has. */
-struct item second_item(const uint8_t *items, uint64_t B, size_t e);
-size_t second_item_bytes(uint64_t B);
+/* Item e, from 0, of a batch for the card's version and block bytes; how many bytes each item has. */
+struct item second_item(const uint8_t *items, const struct card *c, size_t e);
+size_t second_item_bytes(const struct card *c);
 
 /* Whether record i of a table opens at the card's counter; its token where it does. */
 int second_token(const uint8_t *master, const struct card *c, const uint8_t *table, uint64_t i, uint8_t *token);

@@ -1,12 +1,14 @@
 /* The second implementation's set-up, draw, judge and proof. See second.h. */
 #include "second_parts.h"
 
+#include <stdlib.h>
 #include <string.h>
 
 /* ---- Set-up ---- */
 
 uint64_t second_set_up(const uint8_t *master, size_t master_length,
                        const uint8_t *id, size_t id_length,
+                       uint64_t version,
                        uint64_t B, uint64_t d, uint64_t r, uint64_t t, uint64_t n,
                        const uint8_t *blocks, size_t blocks_length,
                        uint8_t *card, size_t card_length,
@@ -14,14 +16,17 @@ uint64_t second_set_up(const uint8_t *master, size_t master_length,
 {
     if (master_length != LEGBARO_MASTER_BYTES || id_length != LEGBARO_ID_BYTES || card_length != LEGBARO_CARD_BYTES)
         return LEGBARO_WRONG_LENGTH;
-    if (!shape_fits(B, d, r) || !within(1, t, LEGBARO_MOST_TOKENS) || !within(1, n, LEGBARO_MOST_BLOCKS))
+    if (!version_fits(version) || !shape_fits(B, d, r) || !within(1, t, LEGBARO_MOST_TOKENS) || !within(1, n, LEGBARO_MOST_BLOCKS))
         return LEGBARO_OUT_OF_LIMITS;
     if (blocks_length != n * B || table_length != t * LEGBARO_RECORD_BYTES)
         return LEGBARO_WRONG_LENGTH;
-    struct card c = {.B = B, .d = d, .r = r, .t = t, .n = n, .ctr = 0, .next = 1, .open = 0};
+    struct card c = {.version = version, .B = B, .d = d, .r = r, .t = t, .n = n, .ctr = 0, .next = 1, .open = 0};
+    uint8_t *marks = calloc(n, 1); /* all live */
+    must(marks != NULL);
     memcpy(c.id, id, sizeof c.id);
-    second_fresh_records(master, &c, blocks, 1, t, table);
+    second_fresh_records(master, &c, blocks, marks, 1, t, table);
     second_write_card(card, &c);
+    free(marks);
     return LEGBARO_OK;
 }
 
@@ -47,7 +52,7 @@ uint64_t second_draw(const uint8_t *master, size_t master_length,
     if (fault)
         return fault;
     struct card c = second_read_card(card);
-    struct message m = {.i = c.next, .B = c.B, .d = c.d, .r = c.r, .n = c.n};
+    struct message m = {.version = c.version, .i = c.next, .B = c.B, .d = c.d, .r = c.r, .n = c.n};
     memcpy(m.id, c.id, sizeof m.id);
     use_keys(master, c.id);
     draw_key_of(c.next, m.k);
@@ -73,7 +78,7 @@ uint64_t second_judge_fault(size_t master_length, const uint8_t *card, size_t ca
 uint64_t second_verdict(const uint8_t *master, const struct card *c, const uint8_t *reply, size_t reply_length)
 {
     uint8_t id[LEGBARO_ID_BYTES], sent[TOKEN_BYTES], token[TOKEN_BYTES];
-    if (reply_length != LEGBARO_REPLY_BYTES || !head_fits(reply, LEGBARO_REPLY_BYTES))
+    if (reply_length != LEGBARO_REPLY_BYTES || !head_fits(reply, LEGBARO_REPLY_BYTES, c->version))
         return LEGBARO_REJECTED;
     const uint8_t *at = behind_head(reply);
     take_bytes(&at, id, sizeof id);
@@ -81,7 +86,7 @@ uint64_t second_verdict(const uint8_t *master, const struct card *c, const uint8
         return LEGBARO_REJECTED;
     take_bytes(&at, sent, sizeof sent);
     use_keys(master, c->id);
-    if (!open_record(at, c->ctr, c->open, token))
+    if (!open_record(at, c, c->open, token))
         return LEGBARO_REJECTED;
     return memcmp(token, sent, sizeof token) == 0 ? LEGBARO_OK : LEGBARO_REJECTED;
 }
@@ -104,21 +109,25 @@ uint64_t second_judge(const uint8_t *master, size_t master_length,
 
 uint64_t second_prove(const uint8_t *message, size_t message_length,
                       const uint8_t *blocks, size_t blocks_length,
+                      const uint8_t *marks, size_t marks_length,
                       const uint8_t *table, size_t table_length,
                       uint8_t *reply, size_t reply_length)
 {
     if (message_length != LEGBARO_MESSAGE_BYTES || reply_length != LEGBARO_REPLY_BYTES)
         return LEGBARO_WRONG_LENGTH;
     struct message m = read_message(message);
-    if (!head_fits(message, LEGBARO_MESSAGE_BYTES))
+    if (!version_fits(m.version) || !head_fits(message, LEGBARO_MESSAGE_BYTES, m.version))
         return LEGBARO_WRONG_HEADER;
     if (!message_fits(&m))
         return LEGBARO_OUT_OF_LIMITS;
-    if (blocks_length != m.n * m.B || table_length < m.i * LEGBARO_RECORD_BYTES)
+    if (blocks_length != m.n * m.B || marks_length != (m.version == 1 ? 0 : m.n) || table_length < m.i * LEGBARO_RECORD_BYTES)
         return LEGBARO_WRONG_LENGTH;
+    if (!marks_fit(marks, marks_length))
+        return LEGBARO_BAD_MARK;
     uint8_t token[TOKEN_BYTES];
-    digest(m.k, m.c, m.d, m.r, m.B, m.n, blocks, token);
-    uint8_t *at = put_head(reply, LEGBARO_REPLY_BYTES);
+    struct shape shape = {m.version, m.d, m.r, m.B, m.n};
+    digest(m.k, m.c, &shape, blocks, marks, token);
+    uint8_t *at = put_head(reply, LEGBARO_REPLY_BYTES, m.version);
     at = put_bytes(at, m.id, sizeof m.id);
     at = put(at, 4, m.i);
     at = put_bytes(at, token, sizeof token);

@@ -10,7 +10,8 @@ static int handed_fits(const struct edit *edit, const struct card *c)
 {
     int has_old = edit->kind == EDIT_UPDATE || edit->kind == EDIT_DELETE;
     int has_new = edit->kind == EDIT_UPDATE || edit->kind == EDIT_APPEND;
-    return (!has_old || edit->old_length == c->B) && (!has_new || edit->new_length == c->B);
+    size_t marks = c->version == 1 ? 0 : 1;
+    return (!has_old || (edit->old_length == c->B && edit->mark_length == marks)) && (!has_new || edit->new_length == c->B);
 }
 
 /* "4, 5"; of a load "just before 5, a load of no bytes or of a length that B doesn't divide (12)", and "code 5 covers one passing the
@@ -41,6 +42,8 @@ uint64_t second_change_fault(const struct edit *edit, size_t master_length, cons
     struct card c = second_read_card(card);
     if (table_length != c.t * LEGBARO_RECORD_BYTES || !handed_fits(edit, &c))
         return LEGBARO_WRONG_LENGTH;
+    if (!marks_fit(edit->mark, edit->mark_length))
+        return LEGBARO_BAD_MARK;
     if (c.open != 0)
         return LEGBARO_TOKEN_OPEN;
     if (place_fault(edit, &c))
@@ -73,13 +76,13 @@ static struct block_change change_at(const struct edit *edit, const struct card 
 {
     switch (edit->kind) {
     case EDIT_UPDATE:
-        return (struct block_change){edit->m, edit->old_block, edit->new_blocks};
+        return (struct block_change){edit->m, edit->old_block, edit->mark, edit->new_blocks, &live};
     case EDIT_DELETE:
-        return (struct block_change){edit->m, edit->old_block, deleted_block};
+        return (struct block_change){edit->m, edit->old_block, edit->mark, deleted_block, &deleted};
     case EDIT_BATCH:
         return item_change(edit->items, c, e);
     default:
-        return (struct block_change){c->n + 1 + e, NULL, edit->new_blocks + e * c->B};
+        return (struct block_change){c->n + 1 + e, NULL, NULL, edit->new_blocks + e * c->B, &live};
     }
 }
 
@@ -102,7 +105,7 @@ static void reseal(uint8_t *record, const struct card *c, uint64_t i, const stru
 {
     uint8_t k[KEY_BYTES], hash_key[KEY_BYTES], token[TOKEN_BYTES];
     int have_hash_key = 0;
-    must(open_record(record, c->ctr, i, token));
+    must(open_record(record, c, i, token));
     draw_key_of(i, k);
     use_draw_key(k);
     for (const struct block_change *item = work->items; item < work->items + work->count; item++) {
@@ -113,10 +116,10 @@ static void reseal(uint8_t *record, const struct card *c, uint64_t i, const stru
             hash_key_of(i, hash_key);
         have_hash_key = 1;
         if (item->old_block)
-            mix_block(token, hash_key, index, item->old_block, c->B);
-        mix_block(token, hash_key, index, item->new_block, c->B);
+            mix_block(token, hash_key, index, mark_in(c->version, item->old_mark, 0), item->old_block, c->B);
+        mix_block(token, hash_key, index, mark_in(c->version, item->new_mark, 0), item->new_block, c->B);
     }
-    seal(record, c->ctr + 1, i, token);
+    seal(record, c->version, c->ctr + 1, i, token);
 }
 
 /* Writes card and table after a list of block changes. */
@@ -142,7 +145,7 @@ static uint64_t change(const struct edit *edit, const uint8_t *master, size_t ma
     struct card c = second_read_card(card);
     use_keys(master, c.id);
     for (uint64_t i = c.next; i <= c.t; i++)
-        if (!open_record(record_at(table, i), c.ctr, i, token))
+        if (!open_record(record_at(table, i), &c, i, token))
             return LEGBARO_BAD_RECORD + 256 * i;
     struct work work = work_of(edit, &c);
     carry_out(&work, c, card, table);
@@ -155,12 +158,15 @@ uint64_t second_update(const uint8_t *master, size_t master_length,
                        uint8_t *table, size_t table_length,
                        uint64_t m,
                        const uint8_t *old_block, size_t old_block_length,
+                       const uint8_t *mark, size_t mark_length,
                        const uint8_t *new_block, size_t new_block_length)
 {
     struct edit edit = {.kind = EDIT_UPDATE,
                         .m = m,
                         .old_block = old_block,
                         .old_length = old_block_length,
+                        .mark = mark,
+                        .mark_length = mark_length,
                         .new_blocks = new_block,
                         .new_length = new_block_length};
     return change(&edit, master, master_length, card, card_length, table, table_length);
@@ -170,9 +176,15 @@ uint64_t second_delete(const uint8_t *master, size_t master_length,
                        uint8_t *card, size_t card_length,
                        uint8_t *table, size_t table_length,
                        uint64_t m,
-                       const uint8_t *old_block, size_t old_block_length)
+                       const uint8_t *old_block, size_t old_block_length,
+                       const uint8_t *mark, size_t mark_length)
 {
-    struct edit edit = {.kind = EDIT_DELETE, .m = m, .old_block = old_block, .old_length = old_block_length};
+    struct edit edit = {.kind = EDIT_DELETE,
+                        .m = m,
+                        .old_block = old_block,
+                        .old_length = old_block_length,
+                        .mark = mark,
+                        .mark_length = mark_length};
     return change(&edit, master, master_length, card, card_length, table, table_length);
 }
 

@@ -17,6 +17,7 @@
 enum { KEY_BYTES = 32, NONCE_BYTES = 12 };
 
 struct message {
+    uint64_t version;
     uint8_t id[LEGBARO_ID_BYTES];
     uint64_t i, B, d, r, n;
     uint8_t k[KEY_BYTES], c[KEY_BYTES];
@@ -35,16 +36,18 @@ uint8_t *put_bytes(uint8_t *at, const uint8_t *bytes, size_t length);
 uint64_t take(const uint8_t **at, unsigned width);
 void take_bytes(const uint8_t **at, uint8_t *bytes, size_t length);
 
-/* The length field and version of a record of `length` bytes in all: written, looked at, and the place behind them. */
-uint8_t *put_head(uint8_t *at, size_t length);
-int head_fits(const uint8_t *bytes, size_t length);
+/* The length field and version of a record of `length` bytes in all: written, looked at, the version alone, and the place behind them. */
+uint8_t *put_head(uint8_t *at, size_t length, uint64_t version);
+int head_fits(const uint8_t *bytes, size_t length, uint64_t version);
+uint64_t version_in(const uint8_t *bytes);
 const uint8_t *behind_head(const uint8_t *bytes);
 
 struct message read_message(const uint8_t *bytes);
 void write_message(uint8_t *bytes, const struct message *m);
 
-/* Limits: of any number, of B, d and r together, of a message, and the code that the card itself gives (2, then 3). */
+/* Limits: of any number, of a version, of B, d and r together, of a message, and the code that the card itself gives (2, then 3). */
 int within(uint64_t least, uint64_t x, uint64_t most);
+int version_fits(uint64_t version);
 int shape_fits(uint64_t B, uint64_t d, uint64_t r);
 int message_fits(const struct message *m);
 uint64_t card_fault(const uint8_t *card);
@@ -66,27 +69,39 @@ void use_keys(const uint8_t *master, const uint8_t *id);
 void draw_key_of(uint64_t i, uint8_t *k);
 void hash_key_of(uint64_t i, uint8_t *c);
 
-/* Xors SHA-256(c, index as four bytes, block) into a token; the token under k and c over n blocks. */
-void mix_block(uint8_t *token, const uint8_t *c, uint64_t index, const uint8_t *block, size_t B);
-void digest(const uint8_t *k, const uint8_t *c, uint64_t d, uint64_t r, size_t B, uint64_t n, const uint8_t *blocks, uint8_t *token);
+/* Xors SHA-256(c, index as four bytes, mark, block) into a token, or without a mark where that is null. */
+void mix_block(uint8_t *token, const uint8_t *c, uint64_t index, const uint8_t *mark, const uint8_t *block, size_t B);
 
-/* Record i of a table: its place, sealed with a token at a counter, and whether it opens there, with its token where it does. */
+/* The numbers over which a token is reckoned, and the token under k and c over n blocks; marks are read in version 2 alone. */
+struct shape {
+    uint64_t version, d, r, B, n;
+};
+void digest(const uint8_t *k, const uint8_t *c, const struct shape *shape, const uint8_t *blocks, const uint8_t *marks, uint8_t *token);
+
+/* Mark number e, from 0, where a version has marks, null where it has none. */
+const uint8_t *mark_in(uint64_t version, const uint8_t *marks, uint64_t e);
+
+/* Record i of a table: its place, sealed with a token for a card's version at a counter, and whether it opens by the card, with its token
+ * where it does. */
 uint8_t *record_at(uint8_t *table, uint64_t i);
-void seal(uint8_t *record, uint64_t ctr, uint64_t i, const uint8_t *token);
-int open_record(const uint8_t *record, uint64_t ctr, uint64_t i, uint8_t *token);
+void seal(uint8_t *record, uint64_t version, uint64_t ctr, uint64_t i, const uint8_t *token);
+int open_record(const uint8_t *record, const struct card *c, uint64_t i, uint8_t *token);
 
 /* ---- second_batches.c ---- */
 
-/* Block m was old_block, null for none, and becomes new_block. */
+/* Block m was old_block, null for none, with its mark, and becomes new_block with another; marks are read in version 2 alone. */
 struct block_change {
     uint64_t m;
-    const uint8_t *old_block, *new_block;
+    const uint8_t *old_block, *old_mark, *new_block, *new_mark;
 };
 
-/* B zero bytes, for the greatest B. */
-extern const uint8_t deleted_block[LEGBARO_MOST_BLOCK_BYTES];
+/* B zero bytes, for the greatest B; "0 live, 1 deleted". */
+extern const uint8_t deleted_block[LEGBARO_MOST_BLOCK_BYTES], live, deleted;
 
-/* The code that the items give (14, then 4); and of items without a fault how many there are, and the change that one makes. */
+/* "a mark above 1": whether one of so many is. */
+int marks_fit(const uint8_t *marks, size_t count);
+
+/* The code that the items give (14, 15, then 4); and of items without a fault how many there are, and the change that one makes. */
 uint64_t items_fault(const uint8_t *items, size_t length, const struct card *c);
 size_t item_count(size_t length, const struct card *c);
 struct block_change item_change(const uint8_t *items, const struct card *c, size_t e);

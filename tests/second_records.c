@@ -3,7 +3,7 @@
 
 #include <string.h>
 
-enum { LENGTH_FIELD = 2, VERSION = 1 };
+enum { LENGTH_FIELD = 2 };
 
 /* ---- Numbers and bytes, one behind the other ---- */
 
@@ -34,15 +34,20 @@ void take_bytes(const uint8_t **at, uint8_t *bytes, size_t length)
     *at += length;
 }
 
-/* "Each begins with a two-byte length of what follows, then version 1": of a record of `length` bytes in all. */
-uint8_t *put_head(uint8_t *at, size_t length)
+/* "Each begins with a two-byte length of what follows, then version 1"; "wherever 01 wants version 1 it now wants the card's" */
+uint8_t *put_head(uint8_t *at, size_t length, uint64_t version)
 {
-    return put(put(at, LENGTH_FIELD, length - LENGTH_FIELD), 1, VERSION);
+    return put(put(at, LENGTH_FIELD, length - LENGTH_FIELD), 1, version);
 }
 
-int head_fits(const uint8_t *bytes, size_t length)
+int head_fits(const uint8_t *bytes, size_t length, uint64_t version)
 {
-    return take(&bytes, LENGTH_FIELD) == length - LENGTH_FIELD && take(&bytes, 1) == VERSION;
+    return take(&bytes, LENGTH_FIELD) == length - LENGTH_FIELD && take(&bytes, 1) == version;
+}
+
+uint64_t version_in(const uint8_t *bytes)
+{
+    return bytes[LENGTH_FIELD];
 }
 
 const uint8_t *behind_head(const uint8_t *bytes)
@@ -54,7 +59,7 @@ const uint8_t *behind_head(const uint8_t *bytes)
 
 struct card second_read_card(const uint8_t *bytes)
 {
-    struct card c;
+    struct card c = {.version = version_in(bytes)};
     const uint8_t *at = behind_head(bytes);
     take_bytes(&at, c.id, sizeof c.id);
     c.B = take(&at, 2);
@@ -70,7 +75,7 @@ struct card second_read_card(const uint8_t *bytes)
 
 void second_write_card(uint8_t *bytes, const struct card *c)
 {
-    uint8_t *at = put_head(bytes, LEGBARO_CARD_BYTES);
+    uint8_t *at = put_head(bytes, LEGBARO_CARD_BYTES, c->version);
     at = put_bytes(at, c->id, sizeof c->id);
     at = put(at, 2, c->B);
     at = put(at, 4, c->d);
@@ -84,7 +89,7 @@ void second_write_card(uint8_t *bytes, const struct card *c)
 
 struct message read_message(const uint8_t *bytes)
 {
-    struct message m;
+    struct message m = {.version = version_in(bytes)};
     const uint8_t *at = behind_head(bytes);
     take_bytes(&at, m.id, sizeof m.id);
     m.i = take(&at, 4);
@@ -99,7 +104,7 @@ struct message read_message(const uint8_t *bytes)
 
 void write_message(uint8_t *bytes, const struct message *m)
 {
-    uint8_t *at = put_head(bytes, LEGBARO_MESSAGE_BYTES);
+    uint8_t *at = put_head(bytes, LEGBARO_MESSAGE_BYTES, m->version);
     at = put_bytes(at, m->id, sizeof m->id);
     at = put(at, 4, m->i);
     at = put(at, 2, m->B);
@@ -113,6 +118,11 @@ void write_message(uint8_t *bytes, const struct message *m)
 int within(uint64_t least, uint64_t x, uint64_t most)
 {
     return least <= x && x <= most;
+}
+
+int version_fits(uint64_t version)
+{
+    return within(FIRST_VERSION, version, LAST_VERSION);
 }
 
 int shape_fits(uint64_t B, uint64_t d, uint64_t r)
@@ -135,7 +145,7 @@ int message_fits(const struct message *m)
 uint64_t card_fault(const uint8_t *card)
 {
     struct card c = second_read_card(card);
-    if (!head_fits(card, LEGBARO_CARD_BYTES))
+    if (!version_fits(c.version) || !head_fits(card, LEGBARO_CARD_BYTES, c.version))
         return LEGBARO_WRONG_HEADER;
     return card_fits(&c) ? LEGBARO_OK : LEGBARO_OUT_OF_LIMITS;
 }

@@ -101,7 +101,7 @@ void hash_key_of(uint64_t i, uint8_t *c)
 
 /* ---- Tokens ---- */
 
-void mix_block(uint8_t *token, const uint8_t *c, uint64_t index, const uint8_t *block, size_t B)
+void mix_block(uint8_t *token, const uint8_t *c, uint64_t index, const uint8_t *mark, const uint8_t *block, size_t B)
 {
     SHA256_CTX running;
     uint8_t index_bytes[4], hash[HASH_BYTES];
@@ -109,22 +109,31 @@ void mix_block(uint8_t *token, const uint8_t *c, uint64_t index, const uint8_t *
     SHA256_Init(&running);
     SHA256_Update(&running, c, KEY_BYTES);
     SHA256_Update(&running, index_bytes, sizeof index_bytes);
+    if (mark)
+        SHA256_Update(&running, mark, 1);
     SHA256_Update(&running, block, B);
     SHA256_Final(hash, &running);
     for (int i = 0; i < HASH_BYTES; i++)
         token[i] ^= hash[i];
 }
 
-/* "the xor, over every j and every block of the row drawn"; "rows beyond n are empty and add nothing" */
-void digest(const uint8_t *k, const uint8_t *c, uint64_t d, uint64_t r, size_t B, uint64_t n, const uint8_t *blocks, uint8_t *token)
+/* "In version 2 one mark byte stands between index and block in the hash" */
+const uint8_t *mark_in(uint64_t version, const uint8_t *marks, uint64_t e)
 {
+    return version == 1 ? NULL : marks + e;
+}
+
+/* "the xor, over every j and every block of the row drawn"; "rows beyond n are empty and add nothing" */
+void digest(const uint8_t *k, const uint8_t *c, const struct shape *shape, const uint8_t *blocks, const uint8_t *marks, uint8_t *token)
+{
+    uint64_t d = shape->d, B = shape->B;
     memset(token, 0, TOKEN_BYTES);
     use_draw_key(k);
-    for (uint64_t j = 1; j <= r; j++) {
+    for (uint64_t j = 1; j <= shape->r; j++) {
         uint64_t row = permuted(d, j - 1) + 1;
-        for (uint64_t column = 0; column * d + row <= n; column++) {
+        for (uint64_t column = 0; column * d + row <= shape->n; column++) {
             uint64_t m = column * d + row;
-            mix_block(token, c, column * d + j, blocks + (m - 1) * B, B);
+            mix_block(token, c, column * d + j, mark_in(shape->version, marks, m - 1), blocks + (m - 1) * B, B);
         }
     }
 }
@@ -142,12 +151,12 @@ static void write_nonce(uint8_t *nonce, uint64_t ctr, uint64_t i)
     put(put(nonce, 8, ctr), 4, i);
 }
 
-void seal(uint8_t *record, uint64_t ctr, uint64_t i, const uint8_t *token)
+void seal(uint8_t *record, uint64_t version, uint64_t ctr, uint64_t i, const uint8_t *token)
 {
     uint8_t nonce[NONCE_BYTES];
     int length;
     write_nonce(nonce, ctr, i);
-    uint8_t *body = put(put(put_head(record, LEGBARO_RECORD_BYTES), 8, ctr), 4, i);
+    uint8_t *body = put(put(put_head(record, LEGBARO_RECORD_BYTES, version), 8, ctr), 4, i);
     must(EVP_EncryptInit_ex(sealing, NULL, NULL, NULL, nonce));
     must(EVP_EncryptUpdate(sealing, NULL, &length, record, CLEAR_BYTES));
     must(EVP_EncryptUpdate(sealing, body, &length, token, TOKEN_BYTES));
@@ -155,15 +164,15 @@ void seal(uint8_t *record, uint64_t ctr, uint64_t i, const uint8_t *token)
     must(EVP_CIPHER_CTX_ctrl(sealing, EVP_CTRL_AEAD_GET_TAG, TAG_BYTES, body + TOKEN_BYTES));
 }
 
-/* "length 61, version 1, the card's ctr, its own i, a tag that holds" */
-int open_record(const uint8_t *record, uint64_t ctr, uint64_t i, uint8_t *token)
+/* "length 61, version 1", which is now the card's, "the card's ctr, its own i, a tag that holds" */
+int open_record(const uint8_t *record, const struct card *c, uint64_t i, uint8_t *token)
 {
     uint8_t nonce[NONCE_BYTES], tag[TAG_BYTES];
     const uint8_t *at = behind_head(record);
     int length;
-    if (!head_fits(record, LEGBARO_RECORD_BYTES) || take(&at, 8) != ctr || take(&at, 4) != i)
+    if (!head_fits(record, LEGBARO_RECORD_BYTES, c->version) || take(&at, 8) != c->ctr || take(&at, 4) != i)
         return 0;
-    write_nonce(nonce, ctr, i);
+    write_nonce(nonce, c->ctr, i);
     memcpy(tag, at + TOKEN_BYTES, TAG_BYTES);
     must(EVP_DecryptInit_ex(opening, NULL, NULL, NULL, nonce));
     must(EVP_CIPHER_CTX_ctrl(opening, EVP_CTRL_AEAD_SET_TAG, TAG_BYTES, tag));
@@ -175,18 +184,19 @@ int open_record(const uint8_t *record, uint64_t ctr, uint64_t i, uint8_t *token)
 int second_token(const uint8_t *master, const struct card *c, const uint8_t *table, uint64_t i, uint8_t *token)
 {
     use_keys(master, c->id);
-    return open_record(table + (i - 1) * LEGBARO_RECORD_BYTES, c->ctr, i, token);
+    return open_record(table + (i - 1) * LEGBARO_RECORD_BYTES, c, i, token);
 }
 
-void second_fresh_records(const uint8_t *master, const struct card *c, const uint8_t *blocks, uint64_t first, uint64_t last,
-                          uint8_t *table)
+void second_fresh_records(const uint8_t *master, const struct card *c, const uint8_t *blocks, const uint8_t *marks, uint64_t first,
+                          uint64_t last, uint8_t *table)
 {
+    struct shape shape = {c->version, c->d, c->r, c->B, c->n};
     uint8_t k[KEY_BYTES], hash_key[KEY_BYTES], token[TOKEN_BYTES];
     use_keys(master, c->id);
     for (uint64_t i = first; i <= last; i++) {
         draw_key_of(i, k);
         hash_key_of(i, hash_key);
-        digest(k, hash_key, c->d, c->r, c->B, c->n, blocks, token);
-        seal(record_at(table, i), c->ctr, i, token);
+        digest(k, hash_key, &shape, blocks, marks, token);
+        seal(record_at(table, i), c->version, c->ctr, i, token);
     }
 }

@@ -42,11 +42,10 @@ static void expect_small(struct call call)
     call_free(&call);
 }
 
-void test_stack(void)
+static void stack_of_calls(uint64_t version)
 {
-    group_begin("each call needs less than 64 KB of stack");
-    struct file file = file_set_up(512, 64, 64, 2, 64);
-    expect_small(file_set_up_call(512, 64, 64, 2, 64));
+    struct file file = file_set_up(version, 512, 64, 64, 2, 64);
+    expect_small(file_set_up_call(version, 512, 64, 64, 2, 64));
     expect_small(file_call(&file, UPDATE));
     expect_small(file_call(&file, DELETE));
     expect_small(file_call(&file, APPEND));
@@ -60,5 +59,12 @@ void test_stack(void)
     expect_small(file_call(&file, PROVE));
     expect_small(file_call(&file, JUDGE));
     file_end(&file);
+}
+
+void test_stack(void)
+{
+    group_begin("each call needs less than 64 KB of stack");
+    for (uint64_t version = FIRST_VERSION; version <= LAST_VERSION; version++)
+        stack_of_calls(version);
     group_end();
 }

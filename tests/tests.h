@@ -23,6 +23,12 @@ void test_loads(void);
 /* Batches of every size, their faults, and batches beside the same changes made singly. */
 void test_batches(void);
 
+/* Versions that there are not, and the other version where the file's is wanted. */
+void test_versions(void);
+
+/* Marks: their lengths and values, blocks of zeros beside deleted ones, and version 2 beside version 1. */
+void test_marks(void);
+
 /* How many positions to draw of planned rows. */
 void test_plans(void);
 

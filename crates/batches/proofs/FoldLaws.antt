@@ -2,7 +2,7 @@
 --   left                               the items from one on
 --   all-begun, all-failed, all-next, all-done   a test of every item; all-each: where it holds, of each
 --   within-low, within-high            a test of limits, from 1 on, that fails
---   kinds-none, kinds-more .. numbers-more     of the kinds, of the numbers
+--   kinds-none, kinds-more .. numbers-more     of the kinds, of the marks, of the numbers
 --   rise-begun, rise-failed, rise-next, rise-done    numbers that rise
 --   code-kinds .. code-none            the code of items from their tests
 --   batch-uneven .. batch-items        the code of a batch from its length, and from its items
@@ -17,70 +17,71 @@ use borrow.Author.Tests.{lt-ltb, le-ltb, lt-leb}
 use lib.Dec.{eqb, leb, ltb}
 use lib.ListN.{length, drop}
 use Rattle.scheme.specs.Ladder.{first, within}
-use Rattle.scheme.specs.Batches.{Item, itemSize, itemsFrom, itemsOf, kindsFit, risingFrom, rising, batchFits, numbersFit}
+use Rattle.scheme.specs.Batches.{Item, itemSize, itemsFrom, itemsOf, kindsFit, risingFrom, rising, batchFits, itemMarksFit, numbersFit}
+use Rattle.scheme.specs.Marks.{marksFit}
 use Rattle.scheme.proofs.LadderLaws.{both}
 use Rattle.scheme.proofs.LoopLaws.{items-step}
 use Rattle.records.specs.Fields.{cardOf}
 use Rattle.records.specs.declared.Card.{Card}
-use Rattle.batches.specs.Items.{itemIn, batchChecks}
+use Rattle.batches.specs.Items.{itemIn, itemChecks, batchChecks}
 
-abbrev pub left : ℕ → ℕ → ℕ → List ℕ → List Item
-left B k e items = itemsFrom B (k - e) (drop (e * itemSize B) items)
+abbrev pub left : ℕ → ℕ → ℕ → ℕ → List ℕ → List Item
+left v B k e items = itemsFrom v B (k - e) (drop (e * itemSize v B) items)
 
-module _ (B k : ℕ) (items : List ℕ) where
-  left-all : left B k 0 items ≡ itemsFrom B k items
+module _ (v B k : ℕ) (items : List ℕ) where
+  left-all : left v B k 0 items ≡ itemsFrom v B k items
   left-all =
       let z : k - 0 ≡ k = omega arith in
-      ap₂ (λ (n a : ℕ). itemsFrom B n (drop a items)) z (zero-mul (itemSize B))
+      ap₂ (λ (n a : ℕ). itemsFrom v B n (drop a items)) z (zero-mul (itemSize v B))
 
-  left-none : (e : ℕ) → k ≤ e → left B k e items ≡ []
+  left-none : (e : ℕ) → k ≤ e → left v B k e items ≡ []
   unfolding itemsFrom
   left-none e h = let z : k - e ≡ 0 = omega arith in rw z
 
   -- a test p of every item, by a definition that recurses from the front
   module _ (p : Item → Bool) (all : List Item → Bool) (none : all [] ≡ true) (more : (x : Item) (xs : List Item) → all (x ∷ xs) ≡ (p x && all xs)) where
-    pub all-begun : all (itemsFrom B k items) ≡ all (left B k 0 items)
+    pub all-begun : all (itemsFrom v B k items) ≡ all (left v B k 0 items)
     all-begun = ap all (sym left-all)
 
-    step : (e : ℕ) → e < k → all (left B k e items) ≡ (p (itemIn B e items) && all (left B k (e + 1) items))
-    step e h = ap all (items-step B k e items h) ∙ more (itemIn B e items) (left B k (e + 1) items)
+    step : (e : ℕ) → e < k → all (left v B k e items) ≡ (p (itemIn v B e items) && all (left v B k (e + 1) items))
+    step e h = ap all (items-step v B k e items h) ∙ more (itemIn v B e items) (left v B k (e + 1) items)
 
-    pub all-failed : (e : ℕ) → e < k → p (itemIn B e items) ≡ false → all (left B k e items) ≡ false
-    all-failed e h f = step e h ∙ ap (λ (b : Bool). b && all (left B k (e + 1) items)) f
+    pub all-failed : (e : ℕ) → e < k → p (itemIn v B e items) ≡ false → all (left v B k e items) ≡ false
+    all-failed e h f = step e h ∙ ap (λ (b : Bool). b && all (left v B k (e + 1) items)) f
 
-    pub all-next : (e : ℕ) → e < k → p (itemIn B e items) ≡ true → all (left B k e items) ≡ all (left B k (e + 1) items)
-    all-next e h f = step e h ∙ ap (λ (b : Bool). b && all (left B k (e + 1) items)) f
+    pub all-next : (e : ℕ) → e < k → p (itemIn v B e items) ≡ true → all (left v B k e items) ≡ all (left v B k (e + 1) items)
+    all-next e h f = step e h ∙ ap (λ (b : Bool). b && all (left v B k (e + 1) items)) f
 
-    all-from : (e : ℕ) → e ≤ k → all (itemsFrom B k items) ≡ true → all (left B k e items) ≡ true
+    all-from : (e : ℕ) → e ≤ k → all (itemsFrom v B k items) ≡ true → all (left v B k e items) ≡ true
     all-from zero h f = sym all-begun ∙ f
     all-from (suc e) h f =
-        ap (λ (i : ℕ). all (left B k i items)) (sym (add-one e))
-        ∙ both (p (itemIn B e items)) (all (left B k (e + 1) items)) (sym (step e (omega arith)) ∙ all-from e (omega arith) f) .1
+        ap (λ (i : ℕ). all (left v B k i items)) (sym (add-one e))
+        ∙ both (p (itemIn v B e items)) (all (left v B k (e + 1) items)) (sym (step e (omega arith)) ∙ all-from e (omega arith) f) .1
 
-    pub all-each : (e : ℕ) → e < k → all (itemsFrom B k items) ≡ true → p (itemIn B e items) ≡ true
-    all-each e h f = both (p (itemIn B e items)) (all (left B k (e + 1) items)) (sym (step e h) ∙ all-from e (omega arith) f) .0
+    pub all-each : (e : ℕ) → e < k → all (itemsFrom v B k items) ≡ true → p (itemIn v B e items) ≡ true
+    all-each e h f = both (p (itemIn v B e items)) (all (left v B k (e + 1) items)) (sym (step e h) ∙ all-from e (omega arith) f) .0
 
-    pub all-done : (e : ℕ) → k ≤ e → all (left B k e items) ≡ true
+    pub all-done : (e : ℕ) → k ≤ e → all (left v B k e items) ≡ true
     all-done e h = ap all (left-none e h) ∙ none
 
-  pub rise-begun : 1 ≤ k → rising (itemsFrom B k items) ≡ risingFrom (itemIn B 0 items .number) (left B k 1 items)
+  pub rise-begun : 1 ≤ k → rising (itemsFrom v B k items) ≡ risingFrom (itemIn v B 0 items .number) (left v B k 1 items)
   unfolding rising
-  rise-begun h = ap rising (sym left-all ∙ items-step B k 0 items (omega arith))
+  rise-begun h = ap rising (sym left-all ∙ items-step v B k 0 items (omega arith))
 
   module _ (e last : ℕ) where
-    rise-step : e < k → risingFrom last (left B k e items) ≡ (ltb last (itemIn B e items .number) && risingFrom (itemIn B e items .number) (left B k (e + 1) items))
+    rise-step : e < k → risingFrom last (left v B k e items) ≡ (ltb last (itemIn v B e items .number) && risingFrom (itemIn v B e items .number) (left v B k (e + 1) items))
     unfolding risingFrom
-    rise-step h = ap (risingFrom last) (items-step B k e items h)
+    rise-step h = ap (risingFrom last) (items-step v B k e items h)
 
-    pub rise-failed : e < k → itemIn B e items .number ≤ last → risingFrom last (left B k e items) ≡ false
+    pub rise-failed : e < k → itemIn v B e items .number ≤ last → risingFrom last (left v B k e items) ≡ false
     rise-failed h l =
-        rise-step h ∙ ap (λ (b : Bool). b && risingFrom (itemIn B e items .number) (left B k (e + 1) items)) (le-ltb last (itemIn B e items .number) l)
+        rise-step h ∙ ap (λ (b : Bool). b && risingFrom (itemIn v B e items .number) (left v B k (e + 1) items)) (le-ltb last (itemIn v B e items .number) l)
 
-    pub rise-next : e < k → last < itemIn B e items .number → risingFrom last (left B k e items) ≡ risingFrom (itemIn B e items .number) (left B k (e + 1) items)
+    pub rise-next : e < k → last < itemIn v B e items .number → risingFrom last (left v B k e items) ≡ risingFrom (itemIn v B e items .number) (left v B k (e + 1) items)
     rise-next h l =
-        rise-step h ∙ ap (λ (b : Bool). b && risingFrom (itemIn B e items .number) (left B k (e + 1) items)) (lt-ltb last (itemIn B e items .number) l)
+        rise-step h ∙ ap (λ (b : Bool). b && risingFrom (itemIn v B e items .number) (left v B k (e + 1) items)) (lt-ltb last (itemIn v B e items .number) l)
 
-    pub rise-done : k ≤ e → risingFrom last (left B k e items) ≡ true
+    pub rise-done : k ≤ e → risingFrom last (left v B k e items) ≡ true
     unfolding risingFrom
     rise-done h = ap (risingFrom last) (left-none e h)
 
@@ -105,6 +106,17 @@ pub kinds-none : kindsFit [] ≡ true
 unfolding kindsFit
 kinds-none = refl
 
+abbrev pub markFits : Item → Bool
+markFits x = marksFit (x .mark)
+
+pub marks-more : (x : Item) (xs : List Item) → itemMarksFit (x ∷ xs) ≡ (markFits x && itemMarksFit xs)
+unfolding itemMarksFit
+marks-more x xs = refl
+
+pub marks-none : itemMarksFit [] ≡ true
+unfolding itemMarksFit
+marks-none = refl
+
 abbrev pub numberFits : ℕ → Item → Bool
 numberFits n x = within 1 n (x .number)
 
@@ -117,9 +129,9 @@ unfolding numbersFit
 numbers-none n = refl
 
 -- the code of items from the tests of them
-module _ (kinds rise numbers : Bool) where
+module _ (kinds rise low numbers : Bool) where
   abbrev code : ℕ
-  code = first 0 ((kinds && rise, 14) ∷ (numbers, 4) ∷ [])
+  code = first 0 ((kinds && rise, 14) ∷ (low, 15) ∷ (numbers, 4) ∷ [])
 
   pub code-kinds : kinds ≡ false → 14 ≡ code
   unfolding first
@@ -129,27 +141,33 @@ module _ (kinds rise numbers : Bool) where
   unfolding first
   code-rise k f = rw (k, f)
 
-  pub code-numbers : kinds ≡ true → rise ≡ true → numbers ≡ false → 4 ≡ code
+  pub code-marks : kinds ≡ true → rise ≡ true → low ≡ false → 15 ≡ code
   unfolding first
-  code-numbers k r f = rw (k, r, f)
+  code-marks k r f = rw (k, r, f)
 
-  pub code-none : kinds ≡ true → rise ≡ true → numbers ≡ true → 0 ≡ code
+  pub code-numbers : kinds ≡ true → rise ≡ true → low ≡ true → numbers ≡ false → 4 ≡ code
   unfolding first
-  code-none k r n = rw (k, r, n)
+  code-numbers k r l f = rw (k, r, l, f)
+
+  pub code-none : kinds ≡ true → rise ≡ true → low ≡ true → numbers ≡ true → 0 ≡ code
+  unfolding first
+  code-none k r l n = rw (k, r, l, n)
 
 -- the code of a batch from its length
 module _ (c : Card) (items : List ℕ) where
-  pub batch-uneven : eqb (length items % itemSize (c .«block_bytes»)) 0 ≡ false → 14 ≡ first 0 (batchChecks (cardOf c) items)
+  abbrev size : ℕ
+  size = itemSize (c .version) (c .«block_bytes»)
+
+  pub batch-uneven : eqb (length items % size) 0 ≡ false → 14 ≡ first 0 (batchChecks (cardOf c) items)
   unfolding first batchFits cardOf
   batch-uneven f = rw f
 
-  module _ (even : eqb (length items % itemSize (c .«block_bytes»)) 0 ≡ true) where
-    pub batch-count : within 1 64 (length items / itemSize (c .«block_bytes»)) ≡ false → 14 ≡ first 0 (batchChecks (cardOf c) items)
+  module _ (even : eqb (length items % size) 0 ≡ true) where
+    pub batch-count : within 1 64 (length items / size) ≡ false → 14 ≡ first 0 (batchChecks (cardOf c) items)
     unfolding first batchFits cardOf
     batch-count f = rw (even, f)
 
-    pub batch-items : (k : ℕ) → k ≡ length items / itemSize (c .«block_bytes») → within 1 64 k ≡ true
-        → first 0 ((kindsFit (itemsFrom (c .«block_bytes») k items) && rising (itemsFrom (c .«block_bytes») k items), 14) ∷ (numbersFit (c .blocks) (itemsFrom (c .«block_bytes») k items), 4) ∷ [])
-        ≡ first 0 (batchChecks (cardOf c) items)
+    pub batch-items : (k : ℕ) → k ≡ length items / size → within 1 64 k ≡ true
+        → first 0 (itemChecks (c .blocks) (itemsFrom (c .version) (c .«block_bytes») k items)) ≡ first 0 (batchChecks (cardOf c) items)
     unfolding first batchFits itemsOf cardOf
     batch-items k ek f = rw (even, ← ek, f)

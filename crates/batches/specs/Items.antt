@@ -1,16 +1,20 @@
 -- The items of a batch where they lie, and what is checked of them. Assumes nothing.
---   itemIn B e items      item e, from 0
+--   itemIn v B e items    item e, from 0
+--   itemChecks n xs       what is checked of items, in a file of n blocks
 --   batchChecks c items   what is checked of a batch
 use Prim.Native.Nat.{ℕ, _*_}
-use mathlib.Core.Bool.{Bool}
+use mathlib.Core.Bool.{Bool, _&&_}
 use mathlib.Core.List.{List, [], _∷_}
 use lib.ListN.{drop}
-use Rattle.scheme.specs.Batches.{Item, itemSize, readItem, itemsOf, batchFits, numbersFit}
+use Rattle.scheme.specs.Batches.{Item, itemSize, readItem, itemsOf, kindsFit, rising, batchFits, itemMarksFit, numbersFit}
 use Rattle.scheme.specs.Records.{Card}
 
-abbrev pub itemIn : ℕ → ℕ → List ℕ → Item
-itemIn B e items = readItem B (drop (e * itemSize B) items)
+abbrev pub itemIn : ℕ → ℕ → ℕ → List ℕ → Item
+itemIn v B e items = readItem v B (drop (e * itemSize v B) items)
 
--- "just before 4, a batch of another size or kind, or with numbers that don't rise (14)"
+abbrev pub itemChecks : ℕ → List Item → List (Bool × ℕ)
+itemChecks n xs = (kindsFit xs && rising xs, 14) ∷ (itemMarksFit xs, 15) ∷ (numbersFit n xs, 4) ∷ []
+
+-- "just before 4, a batch of another size or kind, or with numbers that don't rise (14)"; "a mark above 1 (15), in a batch straight after 14"
 abbrev pub batchChecks : Card → List ℕ → List (Bool × ℕ)
-batchChecks c items = (batchFits c items, 14) ∷ (numbersFit (c .n) (itemsOf c items), 4) ∷ []
+batchChecks c items = (batchFits c items, 14) ∷ (itemMarksFit (itemsOf c items), 15) ∷ (numbersFit (c .n) (itemsOf c items), 4) ∷ []

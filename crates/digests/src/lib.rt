@@ -1,28 +1,30 @@
 // The digest of all positions: what set-up seals as a token, and what the host answers; and what blocks that come behind others make of a digest. Blocks
-// are hashed position by position, in a row from the newest column back to the oldest, and several at once.
+// are hashed position by position, in a row from the newest column back to the oldest, and several at once, each with its mark before it where it has one.
 // Every function equals a definition of specs/ or of the scheme's Tokens at the standard primitives. Nothing is assumed.
 ghost use mathlib.Core.Path.{_≡_};
-ghost use mathlib.Core.List.{List};
+ghost use mathlib.Core.List.{List, [], _∷_};
 ghost use Prim.Native.Nat.{ℕ, _+_, _-_, _*_, _^_, _≤_, _<_};
-ghost use lib.ListN.{length};
-ghost use Rattle.octets.specs.Octets.{xors};
+ghost use lib.ListN.{length, take};
+ghost use Rattle.octets.specs.Octets.{xors, part};
 ghost use Rattle.sha256.specs.Sha256 as S;
 ghost use Rattle.chacha20.specs.ChaCha20.{keyWords};
 ghost use Rattle.permutation.specs.Permutation.{forward};
 ghost use Rattle.permutation.specs.Rounds.{half};
 ghost use Rattle.permutation.specs.Table.{Tabled};
-ghost use Rattle.scheme.specs.Lists.{pieces};
 ghost use Rattle.scheme.specs.Tokens as T;
 ghost use Rattle.standard.specs.Standard.{standard};
-ghost use Rattle.digests.specs.Layout.{Lies, Laid, Row, Seat, behind, start, hashAt};
+ghost use Rattle.digests.specs.Layout.{Lies, Row, Seat, behind, contents, place, hashAt};
 ghost use Rattle.sums.specs.Waiting.{Cut, Sound, held};
 
-// How blocks lie: `count` blocks of `size` bytes that come behind `before` others, in so many rows.
+// How blocks lie: `count` blocks of `size` bytes that come behind `before` others, in so many rows. The mark of a block has `mark` bytes, none in
+// version 1 and one in version 2, and lies `step` bytes behind that of the block before: none where one mark stands for all blocks.
 pub struct Span {
     pub rows: u64,
     pub size: u64,
     pub before: u64,
     pub count: u64,
+    pub mark: u64,
+    pub step: u64,
 }
 
 // The row that a position draws, under the words of a draw key. The table is empty, or has all values of the round function.
@@ -34,13 +36,35 @@ fn drawn_row(words: [u32; 8], table: &[u16], rows: u64, j: counts::Position) -> 
     counts::Row(walk.value + 1)
 }
 
-// Where the block in a row and a column begins in the buffer.
-fn start_of(b: Span, row: counts::Row, column: u64) -> usize
-    requires { ⌜ (b .before < column * b .rows + row .0) × (column * b .rows + row .0 ≤ 16777216) × (b .size ≤ 4096) ⌝ }
-    ensures { λ r. ⌜ (r ≡ start b (row .0) column) × (r + b .size ≡ (column * b .rows + row .0 - b .before) * b .size) ⌝ }
+// How many blocks of the buffer come before the one in a row and a column.
+fn place_of(b: Span, row: counts::Row, column: u64) -> u64
+    requires { ⌜ (b .before < column * b .rows + row .0) × (column * b .rows + row .0 ≤ 16777216) ⌝ }
+    ensures { λ r. ⌜ (r ≡ place b (row .0) column) × (r < 16777216) ⌝ }
 {
     let m = tokens::block_in(b.rows, row, column);
-    ((m.0 - b.before - 1) * b.size) as usize
+    m.0 - b.before - 1
+}
+
+// The mark of the block that e others come before, 0 where marks have no byte.
+fn mark_of(b: Span, e: u64, marks: &[u8]) -> u8
+    requires { ⌜ (b .mark ≤ 1) × (e * b .step + b .mark ≤ length (now marks)) ⌝ }
+    ensures { λ r. ⌜ take (b .mark) (r ∷ []) ≡ part (e * b .step) (b .mark) (now (marks .entry)) ⌝ }
+{
+    if b.mark == 0 {
+        return 0;
+    }
+    marks[(e * b.step) as usize]
+}
+
+// How many bytes are hashed before a block: those of key and index, and its mark where it has one.
+fn head_length(b: Span) -> usize
+    requires { ⌜ b .mark ≤ 1 ⌝ }
+    ensures { λ r. ⌜ r ≡ 36 + b .mark ⌝ }
+{
+    if b.mark == 0 {
+        return 36;
+    }
+    37
 }
 
 // The sum with the hash of the block in a row and a column, at a position.
@@ -53,17 +77,21 @@ fn add_block(
     j: counts::Position,
     column: u64,
     blocks: &[u8],
+    marks: &[u8],
     pad: &[u8],
     p: &mut [u8],
     at: &mut [usize; 16],
 ) -> sums::Sum
-    requires { ⌜ Sound s f (now blocks) (now at) × Cut f 36 (b .size) × Seat b (row .0) column (now blocks) × (j .0 < 2 ^ 32) × (now pad ≡ S.padding (36 + b .size)) × (length (now p) ≡ 3072) ⌝ }
-    ensures { λ r. ⌜ Sound r f (now (blocks .entry)) (now (at .exit)) × (held r f (now (blocks .entry)) (now (at .exit)) (now (p .exit)) ≡ xors (held s f (now (blocks .entry)) (now (at .entry)) (now (p .entry))) (hashAt c b (row .0) (j .0) column (now (blocks .entry)))) ⌝ }
+    requires { ⌜ Sound s f (now blocks) (now at) × Cut f (36 + b .mark) (b .size) × Seat b (row .0) column (now blocks) (now marks) × (j .0 < 2 ^ 32) × (now pad ≡ S.padding (36 + b .mark + b .size)) × (length (now p) ≡ 3072) ⌝ }
+    ensures { λ r. ⌜ Sound r f (now (blocks .entry)) (now (at .exit)) × (held r f (now (blocks .entry)) (now (at .exit)) (now (p .exit)) ≡ xors (held s f (now (blocks .entry)) (now (at .entry)) (now (p .entry))) (hashAt c b (row .0) (j .0) column (now (blocks .entry)) (now (marks .entry)))) ⌝ }
 {
     let index = tokens::index_of(b.rows, column, j);
-    let head = tokens::head_of(c, index);
-    let a = start_of(b, row, column);
-    sums::add(s, f, &head, blocks, a, b.size as usize, pad, p, at)
+    let e = place_of(b, row, column);
+    let mark = mark_of(b, e, marks);
+    let head = tokens::head_of(c, index, mark);
+    let h = head_length(b);
+    let a = (e * b.size) as usize;
+    sums::add(s, f, &head[..h], blocks, a, b.size as usize, pad, p, at)
 }
 
 // The sum with the blocks of a row at a position, from the newest column back to the column `oldest`: whatever this is, the sum has grown by the xor of
@@ -77,19 +105,20 @@ fn add_row(
     j: counts::Position,
     oldest: u64,
     blocks: &[u8],
+    marks: &[u8],
     pad: &[u8],
     p: &mut [u8],
     at: &mut [usize; 16],
 ) -> sums::Sum
-    requires { ⌜ Sound s f (now blocks) (now at) × Cut f 36 (b .size) × Lies b (now blocks) × Row (b .rows) (row .0) × (j .0 < 2 ^ 32) × (now pad ≡ S.padding (36 + b .size)) × (length (now p) ≡ 3072) ⌝ }
+    requires { ⌜ Sound s f (now blocks) (now at) × Cut f (36 + b .mark) (b .size) × Lies b (now blocks) (now marks) × Row (b .rows) (row .0) × (j .0 < 2 ^ 32) × (now pad ≡ S.padding (36 + b .mark + b .size)) × (length (now p) ≡ 3072) ⌝ }
     requires { ⌜ (T.columnsOf (b .rows) (b .before) (row .0) ≤ oldest) × (oldest ≤ T.columnsOf (b .rows) (b .before + b .count) (row .0)) ⌝ }
-    ensures { λ r. ⌜ Sound r f (now (blocks .entry)) (now (at .exit)) × (held r f (now (blocks .entry)) (now (at .exit)) (now (p .exit)) ≡ xors (held s f (now (blocks .entry)) (now (at .entry)) (now (p .entry))) (T.rowFrom standard c (b .rows) (row .0) (j .0) (behind (b .before) (pieces (b .size) (b .count) (now (blocks .entry)))) oldest)) ⌝ }
+    ensures { λ r. ⌜ Sound r f (now (blocks .entry)) (now (at .exit)) × (held r f (now (blocks .entry)) (now (at .exit)) (now (p .exit)) ≡ xors (held s f (now (blocks .entry)) (now (at .entry)) (now (p .entry))) (T.rowFrom standard c (b .rows) (row .0) (j .0) (behind (b .before) (contents b (now (blocks .entry)) (now (marks .entry)))) oldest)) ⌝ }
 {
     let mut sum = s;
     let mut q = tokens::columns_of(b.rows, b.before + b.count, row);
     while oldest < q {
         q -= 1;
-        sum = add_block(sum, f, c, b, row, j, q, blocks, pad, p, at);
+        sum = add_block(sum, f, c, b, row, j, q, blocks, marks, pad, p, at);
     }
     sum
 }
@@ -103,13 +132,14 @@ fn grown_in(
     b: Span,
     positions: u64,
     blocks: &[u8],
+    marks: &[u8],
     x: [u8; 32],
     f: sums::Form,
     pad: &[u8],
     p: &mut [u8],
 ) -> [u8; 32]
-    requires { ⌜ Lies b (now blocks) × (positions ≤ b .rows) × Tabled words (half (b .rows)) (now table) × Cut f 36 (b .size) × (now pad ≡ S.padding (36 + b .size)) × (length (now p) ≡ 3072) ⌝ }
-    ensures { λ r. ⌜ ((k : List ℕ) → words ≡ keyWords k → r ≡ T.workedDigest standard k c (b .rows) positions (T.addedFrom (b .before + 1) (pieces (b .size) (b .count) (now (blocks .entry)))) x) ⌝ }
+    requires { ⌜ Lies b (now blocks) (now marks) × (positions ≤ b .rows) × Tabled words (half (b .rows)) (now table) × Cut f (36 + b .mark) (b .size) × (now pad ≡ S.padding (36 + b .mark + b .size)) × (length (now p) ≡ 3072) ⌝ }
+    ensures { λ r. ⌜ ((k : List ℕ) → words ≡ keyWords k → r ≡ T.workedDigest standard k c (b .rows) positions (T.addedFrom (b .before + 1) (contents b (now (blocks .entry)) (now (marks .entry)))) x) ⌝ }
 {
     let mut at = [0usize; 16];
     let mut sum = sums::start(x);
@@ -118,32 +148,34 @@ fn grown_in(
         let j = counts::Position(drawn + 1);
         let row = drawn_row(words, table, b.rows, j);
         let oldest = tokens::columns_of(b.rows, b.before, row);
-        sum = add_row(sum, f, c, b, row, j, oldest, blocks, pad, p, &mut at);
+        sum = add_row(sum, f, c, b, row, j, oldest, blocks, marks, pad, p, &mut at);
         drawn += 1;
     }
     sums::settled(sum, f, blocks, &at, p)
 }
 
-// The digest x of the blocks before, under the keys k and c, once blocks come behind them.
+// The digest x of the blocks before, under the keys k and c, once blocks come behind them. The table and p are room to work in.
 pub fn grown(
     k: [u8; 32],
     c: [u8; 32],
     b: Span,
     positions: u64,
     blocks: &[u8],
+    marks: &[u8],
     x: [u8; 32],
+    table: &mut [u16],
+    p: &mut [u8],
 ) -> [u8; 32]
-    requires { ⌜ Lies b (now blocks) × (positions ≤ b .rows) ⌝ }
-    ensures { λ r. ⌜ r ≡ T.workedDigest standard k c (b .rows) positions (T.addedFrom (b .before + 1) (pieces (b .size) (b .count) (now (blocks .entry)))) x ⌝ }
+    requires { ⌜ Lies b (now blocks) (now marks) × (positions ≤ b .rows) × (length (now table) ≡ 8192) × (length (now p) ≡ 3072) ⌝ }
+    ensures { λ r. ⌜ r ≡ T.workedDigest standard k c (b .rows) positions (T.addedFrom (b .before + 1) (contents b (now (blocks .entry)) (now (marks .entry)))) x ⌝ }
 {
     let words = chacha20::key_words(&k);
-    let mut table = [0u16; 8192];
-    let entries = permutation::tabulated(words, b.rows, positions, &mut table);
-    let padding = sha256::pad(36 + b.size);
+    let entries = permutation::tabulated(words, b.rows, positions, table);
+    let h = head_length(b);
+    let padding = sha256::pad(h as u64 + b.size);
     let bytes = padding.bytes;
     let len = padding.len;
-    let f = sums::form_of(36, b.size as usize, len);
-    let mut p = [0u8; sums::ROOM];
+    let f = sums::form_of(h, b.size as usize, len);
     grown_in(
         words,
         &table[..entries],
@@ -151,32 +183,28 @@ pub fn grown(
         b,
         positions,
         blocks,
+        marks,
         x,
         f,
         &bytes[..len],
-        &mut p,
+        p,
     )
 }
 
-// The digest of all positions under the keys k and c: what set-up seals as a token, and what the host answers.
+// The digest of all positions under the keys k and c, over blocks with none before them: what set-up seals as a token, and what the host answers.
 pub fn digest(
     k: [u8; 32],
     c: [u8; 32],
-    rows: u64,
+    b: Span,
     positions: u64,
-    size: u64,
-    count: u64,
     blocks: &[u8],
+    marks: &[u8],
 ) -> [u8; 32]
-    requires { ⌜ Laid rows size count (now blocks) × (positions ≤ rows) ⌝ }
-    ensures { λ r. ⌜ r ≡ T.digest standard k c rows positions (pieces size count (now (blocks .entry))) ⌝ }
+    requires { ⌜ Lies b (now blocks) (now marks) × (b .before ≡ 0) × (positions ≤ b .rows) ⌝ }
+    ensures { λ r. ⌜ r ≡ T.digest standard k c (b .rows) positions (contents b (now (blocks .entry)) (now (marks .entry))) ⌝ }
 {
     let none = [0u8; 32];
-    let b = Span {
-        rows,
-        size,
-        before: 0,
-        count,
-    };
-    grown(k, c, b, positions, blocks, none)
+    let mut table = [0u16; 8192];
+    let mut p = [0u8; sums::ROOM];
+    grown(k, c, b, positions, blocks, marks, none, &mut table, &mut p)
 }

@@ -1,19 +1,22 @@
 // The block changes of a call where they lie: the number of each one's block, and the hashes of what is handed over of it.
 // Every function equals a definition of specs/ or of the scheme's Tokens at the standard primitives. Nothing is assumed.
 ghost use mathlib.Core.Path.{_≡_};
+ghost use mathlib.Core.List.{[], _∷_, _++_};
 ghost use mathlib.Core.Bool.{true};
 ghost use Prim.Native.Nat.{_+_, _≤_, _<_};
-ghost use lib.ListN.{length, replicate};
+ghost use lib.ListN.{length, take, replicate};
 ghost use Rattle.octets.specs.Octets.{part, xors};
+ghost use Rattle.scheme.specs.Marks.{marksIn, deleted};
 ghost use Rattle.scheme.specs.Tokens as T;
 ghost use Rattle.standard.specs.Standard.{standard};
 ghost use Rattle.sums.specs.Waiting.{held, Sound};
 ghost use Rattle.items.specs.Items as I;
 
-// The block changes of a call, and the shape of its file: `count` changes of blocks of `size` bytes. They are those of blocks from number `first` on,
-// added where `fresh` is true, else replaced; two buffers go with them, which have the old contents (not read where `fresh` is true) and the new
-// ones, block after block. Or, where `listed` is true, they are the items of a batch, and one buffer goes with them.
+// The block changes of a call, and the version and shape of its file: `count` changes of blocks of `size` bytes. They are those of blocks from number
+// `first` on, added where `fresh` is true, else replaced; two buffers go with them, which have the old blocks (not read where `fresh` is true) and the
+// new ones, block after block. Or, where `listed` is true, they are the items of a batch, and one buffer goes with them.
 pub struct Work {
+    pub version: u64,
     pub rows: u64,
     pub positions: u64,
     pub size: u64,
@@ -39,27 +42,37 @@ pub fn number_of(work: Work, new: &[u8], e: u64) -> counts::Block
     ensures { λ r. ⌜ (r .0 ≡ I.numberAt work (now (new .entry)) e) × (1 ≤ r .0) × (r .0 ≤ 16777216) ⌝ }
 {
     if work.listed {
-        return batches::number_of(work.size, new, e);
+        return batches::number_of(work.version, work.size, new, e);
     }
     counts::Block(work.first + e)
 }
 
-// The hash of a deleted block at an index, under a hash key c: of zero bytes.
-fn deleted_hash(c: [u8; 32], index: u64, size: u64) -> [u8; 32]
-    requires { ⌜ size ≤ 4096 ⌝ }
-    ensures { λ r. ⌜ r ≡ T.blockHash standard c index (replicate size 0) ⌝ }
+// How many bytes are hashed before a block: those of key and index, and its mark where it has one.
+pub fn head_bytes(version: u64) -> usize
+    ensures { λ r. ⌜ (r ≡ 36 + marksIn version) × (r ≤ 37) ⌝ }
 {
-    let zeros = [0u8; 4096];
-    let end = size as usize;
-    tokens::block_hash(c, index, &zeros[..end])
+    36 + marks::marks_in(version) as usize
 }
 
-// The sum with the hash of the `size` bytes of `far` from `a` on, at an index, under a hash key c.
+// The hash of a deleted block at an index, under a hash key c: of its mark, where it has one, and zero bytes.
+fn deleted_hash(c: [u8; 32], index: u64, version: u64, size: u64) -> [u8; 32]
+    requires { ⌜ size ≤ 4096 ⌝ }
+    ensures { λ r. ⌜ r ≡ T.blockHash standard c index (deleted version ++ replicate size 0) ⌝ }
+{
+    let gone = [1u8; 1];
+    let zeros = [0u8; 4096];
+    let k = marks::marks_in(version) as usize;
+    let end = size as usize;
+    tokens::block_hash(c, index, &gone[..k], &zeros[..end])
+}
+
+// The sum with the hash of a block at an index, under a hash key c: of the mark, where the version has one, and the bytes of `far` from `a` on.
 fn add_block(
     s: sums::Sum,
     c: [u8; 32],
     index: u64,
-    size: u64,
+    mark: u8,
+    work: Work,
     f: sums::Form,
     far: &[u8],
     a: usize,
@@ -67,14 +80,16 @@ fn add_block(
     p: &mut [u8],
     at: &mut [usize; 16],
 ) -> sums::Sum
-    requires { ⌜ I.Fits f size (now pad) (now p) × Sound s f (now far) (now at) × (a + size ≤ length (now far)) ⌝ }
-    ensures { λ r. ⌜ Sound r f (now (far .entry)) (now (at .exit)) × (held r f (now (far .entry)) (now (at .exit)) (now (p .exit)) ≡ xors (held s f (now (far .entry)) (now (at .entry)) (now (p .entry))) (T.blockHash standard c index (part a size (now (far .entry))))) ⌝ }
+    requires { ⌜ I.Fits f (work .version) (work .size) (now pad) (now p) × Sound s f (now far) (now at) × (a + work .size ≤ length (now far)) ⌝ }
+    ensures { λ r. ⌜ Sound r f (now (far .entry)) (now (at .exit)) × (held r f (now (far .entry)) (now (at .exit)) (now (p .exit)) ≡ xors (held s f (now (far .entry)) (now (at .entry)) (now (p .entry))) (T.blockHash standard c index (take (marksIn (work .version)) (mark ∷ []) ++ part a (work .size) (now (far .entry))))) ⌝ }
 {
-    let head = tokens::head_of(c, index);
-    sums::add(s, f, &head, far, a, size as usize, pad, p, at)
+    let head = tokens::head_of(c, index, mark);
+    let h = head_bytes(work.version);
+    sums::add(s, f, &head[..h], far, a, work.size as usize, pad, p, at)
 }
 
-// The sum with the hashes of item e of a batch at an index: of its old block, and of its new one or, where it is a deletion, of zero bytes.
+// The sum with the hashes of item e of a batch at an index: of its old block with its mark, and of its new one, live, or, where it is a deletion, of a
+// deleted block.
 fn add_correction(
     s: sums::Sum,
     c: [u8; 32],
@@ -88,18 +103,20 @@ fn add_correction(
     at: &mut [usize; 16],
 ) -> sums::Sum
     requires { ⌜ I.Several work (now new) × (work .listed ≡ true) × (e < work .count) ⌝ }
-    requires { ⌜ I.Fits f (work .size) (now pad) (now p) × Sound s f (now new) (now at) ⌝ }
-    ensures { λ r. ⌜ Sound r f (now (new .entry)) (now (at .exit)) × (held r f (now (new .entry)) (now (at .exit)) (now (p .exit)) ≡ T.mixed standard c index (I.changeAt work (now (new .entry)) (now (new .entry)) e) (held s f (now (new .entry)) (now (at .entry)) (now (p .entry)))) ⌝ }
+    requires { ⌜ I.Fits f (work .version) (work .size) (now pad) (now p) × Sound s f (now new) (now at) ⌝ }
+    ensures { λ r. ⌜ Sound r f (now (new .entry)) (now (at .exit)) × (held r f (now (new .entry)) (now (at .exit)) (now (p .exit)) ≡ T.mixed standard c index (I.severalAt work (now (new .entry)) e) (held s f (now (new .entry)) (now (at .entry)) (now (p .entry)))) ⌝ }
 {
+    let version = work.version;
     let size = work.size;
-    let a = batches::item_at(size, e);
+    let a = batches::item_at(version, size, e);
     let b = a + 5;
-    let removed = add_block(s, c, index, size, f, new, b, pad, p, at);
-    if batches::is_update(size, new, e) {
-        let d = b + size as usize;
-        return add_block(removed, c, index, size, f, new, d, pad, p, at);
+    let mark = batches::mark_of(version, size, new, e);
+    let removed = add_block(s, c, index, mark, work, f, new, b, pad, p, at);
+    if batches::is_update(version, size, new, e) {
+        let d = b + size as usize + marks::marks_in(version) as usize;
+        return add_block(removed, c, index, 0, work, f, new, d, pad, p, at);
     }
-    let h = deleted_hash(c, index, size);
+    let h = deleted_hash(c, index, version, size);
     sums::with_hash(removed, h)
 }
 
@@ -117,13 +134,12 @@ pub fn add_contents(
     at: &mut [usize; 16],
 ) -> sums::Sum
     requires { ⌜ I.Several work (now new) × (e < work .count) ⌝ }
-    requires { ⌜ I.Fits f (work .size) (now pad) (now p) × Sound s f (now new) (now at) ⌝ }
-    ensures { λ r. ⌜ Sound r f (now (new .entry)) (now (at .exit)) × (held r f (now (new .entry)) (now (at .exit)) (now (p .exit)) ≡ T.mixed standard c index (I.changeAt work (now (new .entry)) (now (new .entry)) e) (held s f (now (new .entry)) (now (at .entry)) (now (p .entry)))) ⌝ }
+    requires { ⌜ I.Fits f (work .version) (work .size) (now pad) (now p) × Sound s f (now new) (now at) ⌝ }
+    ensures { λ r. ⌜ Sound r f (now (new .entry)) (now (at .exit)) × (held r f (now (new .entry)) (now (at .exit)) (now (p .exit)) ≡ T.mixed standard c index (I.severalAt work (now (new .entry)) e) (held s f (now (new .entry)) (now (at .entry)) (now (p .entry)))) ⌝ }
 {
     if work.listed {
         return add_correction(s, c, index, work, e, f, new, pad, p, at);
     }
-    let size = work.size;
-    let a = (e * size) as usize;
-    add_block(s, c, index, size, f, new, a, pad, p, at)
+    let a = (e * work.size) as usize;
+    add_block(s, c, index, 0, work, f, new, a, pad, p, at)
 }

@@ -33,54 +33,54 @@ under-keyed c work i rec h = rw (draw-key h i, hash-key h i, h .sealing)
 
 -- one record: x is the token in it, y the token changed, after the table with y sealed
 pub one-record : (keys : Keys) (c : Card) (work : List (ℕ × Change)) (i : ℕ) (table after x y : List ℕ)
-    → x ≡ value (tokenIn standard (keys .k) (c .ctr) i (recordAt i table))
+    → x ≡ value (tokenIn standard (keys .k) (c .version) (c .ctr) i (recordAt i table))
     → y ≡ workedDigest standard (tokenKey (keys .w) i) (tokenKey (keys .z) i) (c .d) (c .r) work x
     → length y ≡ 32
-    → after ≡ put ((i - 1) * 63) (sealedRecord standard (keys .k) (c .ctr + 1) i y) table
+    → after ≡ put ((i - 1) * 63) (sealedRecord standard (keys .k) (c .version) (c .ctr + 1) i y) table
     → (length (resealedUnder keys c work i (recordAt i table)) ≡ 63) × (after ≡ put ((i - 1) * 63) (resealedUnder keys c work i (recordAt i table)) table)
 unfolding resealedUnder
 one-record keys c work i table after x y e f l g =
     let digest = workedDigest standard (tokenKey (keys .w) i) (tokenKey (keys .z) i) (c .d) (c .r) work in
-    let same : y ≡ digest (value (tokenIn standard (keys .k) (c .ctr) i (recordAt i table))) = f ∙ ap digest e in (
-      ap (λ (z : List ℕ). length (sealedRecord standard (keys .k) (c .ctr + 1) i z)) (sym same) ∙ record-long standard (keys .k) (c .ctr + 1) i y l,
-      g ∙ ap (λ (z : List ℕ). put ((i - 1) * 63) (sealedRecord standard (keys .k) (c .ctr + 1) i z) table) same,
+    let same : y ≡ digest (value (tokenIn standard (keys .k) (c .version) (c .ctr) i (recordAt i table))) = f ∙ ap digest e in (
+      ap (λ (z : List ℕ). length (sealedRecord standard (keys .k) (c .version) (c .ctr + 1) i z)) (sym same) ∙ record-long standard (keys .k) (c .version) (c .ctr + 1) i y l,
+      g ∙ ap (λ (z : List ℕ). put ((i - 1) * 63) (sealedRecord standard (keys .k) (c .version) (c .ctr + 1) i z) table) same,
     )
 
-pub bad-most : (key : List ℕ) (ctr : ℕ) (table : List ℕ) (m i : ℕ) → firstBad standard key ctr table m i ≤ i + m
+pub bad-most : (key : List ℕ) (v ctr : ℕ) (table : List ℕ) (m i : ℕ) → firstBad standard key v ctr table m i ≤ i + m
 unfolding firstBad
-bad-most key ctr table zero i = omega arith
-bad-most key ctr table (suc m) i = go (there (tokenIn standard key ctr i (recordAt i table))) (bad-most key ctr table m (i + 1))
+bad-most key v ctr table zero i = omega arith
+bad-most key v ctr table (suc m) i = go (there (tokenIn standard key v ctr i (recordAt i table))) (bad-most key v ctr table m (i + 1))
   where
-    go : (b : Bool) → firstBad standard key ctr table m (i + 1) ≤ i + 1 + m → cond b (firstBad standard key ctr table m (i + 1)) i ≤ i + suc m
+    go : (b : Bool) → firstBad standard key v ctr table m (i + 1) ≤ i + 1 + m → cond b (firstBad standard key v ctr table m (i + 1)) i ≤ i + suc m
     go true l = omega arith
     go false l = omega arith
 
 -- record i of t records, of which those from i on open
-module _ (key : List ℕ) (ctr t i : ℕ) (table : List ℕ) (l : 1 ≤ i) (h : i ≤ t) (z : firstBad standard key ctr table (t + 1 - i) i ≡ 0) where
-  pub bad-opens : there (tokenIn standard key ctr i (recordAt i table)) ≡ true
-  bad-opens = all-open standard key ctr table (t + 1 - i) i l z i (omega arith) (omega arith)
+module _ (key : List ℕ) (v ctr t i : ℕ) (table : List ℕ) (l : 1 ≤ i) (h : i ≤ t) (z : firstBad standard key v ctr table (t + 1 - i) i ≡ 0) where
+  pub bad-opens : there (tokenIn standard key v ctr i (recordAt i table)) ≡ true
+  bad-opens = all-open standard key v ctr table (t + 1 - i) i l z i (omega arith) (omega arith)
 
   -- record i is written anew
   module _ (rec : List ℕ) (long : length rec ≡ 63) (whole : length table ≡ t * 63) where
-    others : (m j : ℕ) → i < j → firstBad standard key ctr (put ((i - 1) * 63) rec table) m j ≡ firstBad standard key ctr table m j
+    others : (m j : ℕ) → i < j → firstBad standard key v ctr (put ((i - 1) * 63) rec table) m j ≡ firstBad standard key v ctr table m j
     unfolding firstBad
     others zero j f = refl
     others (suc m) j f = rw (put-later i t rec table l h whole long j f, others m (j + 1) (omega arith))
 
-    pub bad-later : firstBad standard key ctr (put ((i - 1) * 63) rec table) (t + 1 - (i + 1)) (i + 1) ≡ 0
-    bad-later = others (t + 1 - (i + 1)) (i + 1) (omega arith) ∙ sym (bad-step standard key ctr t i table h bad-opens) ∙ z
+    pub bad-later : firstBad standard key v ctr (put ((i - 1) * 63) rec table) (t + 1 - (i + 1)) (i + 1) ≡ 0
+    bad-later = others (t + 1 - (i + 1)) (i + 1) (omega arith) ∙ sym (bad-step standard key v ctr t i table h bad-opens) ∙ z
 
 -- a table whose record i is resealed: its length, and the records behind it
 pub turn : (keys : Keys) (c : Card) (work : List (ℕ × Change)) (t i : ℕ) (table after : List ℕ) → 1 ≤ i → i ≤ t → length table ≡ t * 63
-    → firstBad standard (keys .k) (c .ctr) table (t + 1 - i) i ≡ 0
+    → firstBad standard (keys .k) (c .version) (c .ctr) table (t + 1 - i) i ≡ 0
     → length (resealedUnder keys c work i (recordAt i table)) ≡ 63
     → after ≡ put ((i - 1) * 63) (resealedUnder keys c work i (recordAt i table)) table
-    → (length after ≡ t * 63) × (firstBad standard (keys .k) (c .ctr) after (t + 1 - (i + 1)) (i + 1) ≡ 0)
+    → (length after ≡ t * 63) × (firstBad standard (keys .k) (c .version) (c .ctr) after (t + 1 - (i + 1)) (i + 1) ≡ 0)
 turn keys c work t i table after l h whole z long e =
     let rec = resealedUnder keys c work i (recordAt i table) in (
       ap length e ∙ length-put ((i - 1) * 63) rec table (omega arith) ∙ whole,
-      ap (λ (x : List ℕ). firstBad standard (keys .k) (c .ctr) x (t + 1 - (i + 1)) (i + 1)) e
-          ∙ bad-later (keys .k) (c .ctr) t i table l h z rec long whole,
+      ap (λ (x : List ℕ). firstBad standard (keys .k) (c .version) (c .ctr) x (t + 1 - (i + 1)) (i + 1)) e
+          ∙ bad-later (keys .k) (c .version) (c .ctr) t i table l h z rec long whole,
     )
 
 pub reseal-more : {master : List ℕ} {keys : Keys} (c : Card) (work : List (ℕ × Change)) (t i : ℕ) (table after : List ℕ)

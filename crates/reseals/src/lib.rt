@@ -16,12 +16,14 @@ ghost use Rattle.items.specs.Items.{itemsOf, alone, Lent};
 ghost use Rattle.works.specs.Runs.{Room};
 ghost use Rattle.reseals.specs.Resealed.{Opens, Shaped, resealedUnder};
 
-// Reseals record i, which opens: its token is opened, changed and sealed at the next counter. The other records keep their bytes.
+// Reseals record i, which opens: its token is opened, changed and sealed in the card's version at the next counter. The other records keep their bytes.
 fn reseal_one(
     keys: tokens::Keys,
     c: records::Card,
     work: items::Work,
+    old_mark: &[u8],
     old: &[u8],
+    new_mark: &[u8],
     new: &[u8],
     i: counts::Token,
     table: &mut [u8],
@@ -30,19 +32,33 @@ fn reseal_one(
     ends: &mut [u64],
     p: &mut [u8],
 )
-    requires { ⌜ (c .counter < 4294967295) × Shaped c work × Lent work (now old) (now new) ⌝ }
+    requires { ⌜ (c .version < 256) × (c .counter < 4294967295) × Shaped c work × Lent work (now «old_mark») (now old) (now «new_mark») (now new) ⌝ }
     requires { ⌜ (alone work ≡ false → Room (now walks) (now starts) (now ends) (now p)) ⌝ }
     requires { ⌜ (1 ≤ i .0) × (i .0 ≤ 65536) × (i .0 * 63 ≤ length (now table)) ⌝ }
-    requires { ⌜ T.there (T.tokenIn standard (keys .k) (c .counter) (i .0) (recordAt (i .0) (now table))) ≡ true ⌝ }
-    ensures { λ _. ⌜ length (resealedUnder keys (cardOf c) (itemsOf work (now (old .entry)) (now (new .entry))) (i .0) (recordAt (i .0) (now (table .entry)))) ≡ 63 ⌝ }
-    ensures { λ _. ⌜ now (table .exit) ≡ put ((i .0 - 1) * 63) (resealedUnder keys (cardOf c) (itemsOf work (now (old .entry)) (now (new .entry))) (i .0) (recordAt (i .0) (now (table .entry)))) (now (table .entry)) ⌝ }
+    requires { ⌜ T.there (T.tokenIn standard (keys .k) (c .version) (c .counter) (i .0) (recordAt (i .0) (now table))) ≡ true ⌝ }
+    ensures { λ _. ⌜ length (resealedUnder keys (cardOf c) (itemsOf work (now («old_mark» .entry)) (now (old .entry)) (now («new_mark» .entry)) (now (new .entry))) (i .0) (recordAt (i .0) (now (table .entry)))) ≡ 63 ⌝ }
+    ensures { λ _. ⌜ now (table .exit) ≡ put ((i .0 - 1) * 63) (resealedUnder keys (cardOf c) (itemsOf work (now («old_mark» .entry)) (now (old .entry)) (now («new_mark» .entry)) (now (new .entry))) (i .0) (recordAt (i .0) (now (table .entry)))) (now (table .entry)) ⌝ }
 {
     let k = keys.k;
     let w = keys.w;
     let z = keys.z;
-    let x = seals::token_in(k, c.counter, i, table);
-    let y = works::worked(w, z, i, work, old, new, x, walks, starts, ends, p);
-    seals::seal_token(k, c.counter + 1, i, y, table);
+    let x = seals::token_in(k, c.version, c.counter, i, table);
+    let y = works::worked(
+        w,
+        z,
+        i,
+        work,
+        old_mark,
+        old,
+        new_mark,
+        new,
+        x,
+        walks,
+        starts,
+        ends,
+        p,
+    );
+    seals::seal_token(k, c.version, c.counter + 1, i, y, table);
 }
 
 // Reseals the unused records, each of which opens, in the room that is lent.
@@ -50,7 +66,9 @@ fn reseal_in(
     keys: tokens::Keys,
     c: records::Card,
     work: items::Work,
+    old_mark: &[u8],
     old: &[u8],
+    new_mark: &[u8],
     new: &[u8],
     table: &mut [u8],
     walks: &mut [u16],
@@ -58,9 +76,9 @@ fn reseal_in(
     ends: &mut [u64],
     p: &mut [u8],
 )
-    requires { ⌜ Opens (keys .k) c (now table) × Shaped c work × Lent work (now old) (now new) ⌝ }
+    requires { ⌜ Opens (keys .k) c (now table) × Shaped c work × Lent work (now «old_mark») (now old) (now «new_mark») (now new) ⌝ }
     requires { ⌜ (alone work ≡ false → Room (now walks) (now starts) (now ends) (now p)) ⌝ }
-    ensures { λ _. ⌜ ((master : List ℕ) → Keyed master (c .id) keys → now (table .exit) ≡ T.reseal standard master (cardOf c) (itemsOf work (now (old .entry)) (now (new .entry))) (c .tokens + 1 - c .next) (c .next) (now (table .entry))) ⌝ }
+    ensures { λ _. ⌜ ((master : List ℕ) → Keyed master (c .id) keys → now (table .exit) ≡ T.reseal standard master (cardOf c) (itemsOf work (now («old_mark» .entry)) (now (old .entry)) (now («new_mark» .entry)) (now (new .entry))) (c .tokens + 1 - c .next) (c .next) (now (table .entry))) ⌝ }
 {
     let mut i = c.next;
     while i <= c.tokens {
@@ -68,7 +86,9 @@ fn reseal_in(
             keys,
             c,
             work,
+            old_mark,
             old,
+            new_mark,
             new,
             counts::Token(i),
             table,
@@ -86,12 +106,14 @@ pub fn reseal(
     keys: tokens::Keys,
     c: records::Card,
     work: items::Work,
+    old_mark: &[u8],
     old: &[u8],
+    new_mark: &[u8],
     new: &[u8],
     table: &mut [u8],
 )
-    requires { ⌜ Opens (keys .k) c (now table) × Shaped c work × Lent work (now old) (now new) ⌝ }
-    ensures { λ _. ⌜ ((master : List ℕ) → Keyed master (c .id) keys → now (table .exit) ≡ T.reseal standard master (cardOf c) (itemsOf work (now (old .entry)) (now (new .entry))) (c .tokens + 1 - c .next) (c .next) (now (table .entry))) ⌝ }
+    requires { ⌜ Opens (keys .k) c (now table) × Shaped c work × Lent work (now «old_mark») (now old) (now «new_mark») (now new) ⌝ }
+    ensures { λ _. ⌜ ((master : List ℕ) → Keyed master (c .id) keys → now (table .exit) ≡ T.reseal standard master (cardOf c) (itemsOf work (now («old_mark» .entry)) (now (old .entry)) (now («new_mark» .entry)) (now (new .entry))) (c .tokens + 1 - c .next) (c .next) (now (table .entry))) ⌝ }
 {
     let one = items::alone(work);
     if one {
@@ -103,7 +125,9 @@ pub fn reseal(
             keys,
             c,
             work,
+            old_mark,
             old,
+            new_mark,
             new,
             table,
             &mut walks,
@@ -121,7 +145,9 @@ pub fn reseal(
         keys,
         c,
         work,
+        old_mark,
         old,
+        new_mark,
         new,
         table,
         &mut walks,

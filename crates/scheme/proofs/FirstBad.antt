@@ -10,14 +10,13 @@ use native.Mathlib.Omega.{arith}
 use native.Mathlib.Decide.{ℕ-discrete}
 use mathlib.Core.Path.{_≡_, refl, sym, ap, _∙_, subst}
 use mathlib.Core.Logic.{_↔_}
-use mathlib.Core.List.{List, [], _∷_, _++_}
+use mathlib.Core.List.{List}
 use mathlib.Core.Option.{Option, none, some}
 use mathlib.Core.Bool.{Bool, true, false, cond, _&&_, false≢true}
 use borrow.Author.Tests.{eqb-true, eq-eqb, ne-eqb, ltb-true, ltb-false}
 use lib.ListN.{length, getD}
 use lib.Dec.{eqb, ltb}
 use Rattle.octets.specs.Octets.{ofBe, part}
-use Rattle.scheme.specs.Ladder.{first}
 use Rattle.scheme.specs.Primitives.{Primitives}
 use Rattle.scheme.specs.Records.{Card, readCard, headFits, recordAt}
 use Rattle.scheme.specs.Tokens.{keyK}
@@ -33,10 +32,10 @@ abbrev pub Unused : Card → ℕ → Type 0
 Unused c i = (c .next ≤ i) × (i ≤ c .t)
 
 module _ (P : Primitives) (master : List ℕ) (c : Card) where
-  -- "must open (length 61, version 1, the card's ctr, its own i, a tag that holds)": a record, as that of token i, under the key K of the card's file
+  -- "must open (length 61, version .., the card's ctr, its own i, a tag that holds)", the version being the card's: a record, as that of token i, under the key K of the card's file
   pub record Opens (i : ℕ) (rec : List ℕ) : Type 0 where
     pub length61 : ofBe (part 0 2 rec) ≡ 61
-    pub version1 : getD rec 2 0 ≡ 1
+    pub version : getD rec 2 0 ≡ c .version
     pub counter : ofBe (part 3 8 rec) ≡ c .ctr
     pub own : ofBe (part 11 4 rec) ≡ i
     pub token : List ℕ
@@ -52,7 +51,7 @@ module _ (P : Primitives) (master : List ℕ) (c : Card) where
       pub bad : Bad i
       pub below : (j : ℕ) → Unused c j → j < i → Opens j (recordAt j table)
 
--- what a change checks before the records of the table: every test holds, and so none of 1, 2, 3, 8, 14, 4, 12, 5 and 10 is its answer
+-- what a change checks before the records of the table: every test holds, and so none of 1, 2, 3, 15, 8, 14, 4, 12, 5 and 10 is its answer
 abbrev pub Unrefused : Primitives → List ℕ → List ℕ → List ℕ → Edit → Type 0
 Unrefused P master card table edit = Holds (changeChecks P master card table edit)
 
@@ -65,20 +64,20 @@ behind false o h = absurd (false≢true h)
 module _ (P : Primitives) (master : List ℕ) (c : Card) (table : List ℕ) where
   -- the test of the definitions, and what it says
   opened : ℕ → Bool
-  opened i = opens P (keyK P master (c .id)) (c .ctr) table i
+  opened i = opens P (keyK P master (c .id)) (c .version) (c .ctr) table i
 
   opened-opens : (i : ℕ) → opened i ≡ true → Opens P master c i (recordAt i table)
   unfolding opened tokenIn headFits
   opened-opens i h =
       let rec = recordAt i table in
       let body = bodyIn P (keyK P master (c .id)) (c .ctr) i rec in
-      let p = behind (headFits 61 rec && eqb (ofBe (part 3 8 rec)) (c .ctr) && eqb (ofBe (part 11 4 rec)) i) body h in
-      let q₁ = both (headFits 61 rec && eqb (ofBe (part 3 8 rec)) (c .ctr)) (eqb (ofBe (part 11 4 rec)) i) (p .0) in
-      let q₂ = both (headFits 61 rec) (eqb (ofBe (part 3 8 rec)) (c .ctr)) (q₁ .0) in
-      let q₃ = both (eqb (ofBe (part 0 2 rec)) 61) (eqb (getD rec 2 0) 1) (q₂ .0) in
+      let p = behind (headFits 61 (c .version) rec && eqb (ofBe (part 3 8 rec)) (c .ctr) && eqb (ofBe (part 11 4 rec)) i) body h in
+      let q₁ = both (headFits 61 (c .version) rec && eqb (ofBe (part 3 8 rec)) (c .ctr)) (eqb (ofBe (part 11 4 rec)) i) (p .0) in
+      let q₂ = both (headFits 61 (c .version) rec) (eqb (ofBe (part 3 8 rec)) (c .ctr)) (q₁ .0) in
+      let q₃ = both (eqb (ofBe (part 0 2 rec)) 61) (eqb (getD rec 2 0) (c .version)) (q₂ .0) in
       record {
         length61 = eqb-true (ofBe (part 0 2 rec)) 61 (q₃ .0);
-        version1 = eqb-true (getD rec 2 0) 1 (q₃ .1);
+        version = eqb-true (getD rec 2 0) (c .version) (q₃ .1);
         counter = eqb-true (ofBe (part 3 8 rec)) (c .ctr) (q₂ .1);
         own = eqb-true (ofBe (part 11 4 rec)) i (q₁ .1);
         token = value body;
@@ -91,7 +90,7 @@ module _ (P : Primitives) (master : List ℕ) (c : Card) (table : List ℕ) wher
       let rec = recordAt i table in
       rw (
         eq-eqb (ofBe (part 0 2 rec)) 61 (o .length61),
-        eq-eqb (getD rec 2 0) 1 (o .version1),
+        eq-eqb (getD rec 2 0) (c .version) (o .version),
         eq-eqb (ofBe (part 3 8 rec)) (c .ctr) (o .counter),
         eq-eqb (ofBe (part 11 4 rec)) i (o .own),
         o .tag,
@@ -104,13 +103,13 @@ module _ (P : Primitives) (master : List ℕ) (c : Card) (table : List ℕ) wher
     shut : opened bad ≡ false
     before : (j : ℕ) → i ≤ j → j < bad → opened j ≡ true
 
-  found : (m i : ℕ) → 1 ≤ firstBad P (keyK P master (c .id)) (c .ctr) table m i → Found i m (firstBad P (keyK P master (c .id)) (c .ctr) table m i)
+  found : (m i : ℕ) → 1 ≤ firstBad P (keyK P master (c .id)) (c .version) (c .ctr) table m i → Found i m (firstBad P (keyK P master (c .id)) (c .version) (c .ctr) table m i)
   unfolding firstBad opened
   found zero i h = absurd (omega arith)
   found (suc m) i h = go (opened i) refl h (found m (i + 1))
     where
       rest : ℕ
-      rest = firstBad P (keyK P master (c .id)) (c .ctr) table m (i + 1)
+      rest = firstBad P (keyK P master (c .id)) (c .version) (c .ctr) table m (i + 1)
 
       go : (o : Bool) → opened i ≡ o → 1 ≤ cond o rest i → (1 ≤ rest → Found (i + 1) m rest) → Found i (suc m) (cond o rest i)
       go false e l ih = record { from = omega arith; to = omega arith; shut = e; before = λ j u v. absurd (omega arith) }
@@ -138,7 +137,7 @@ module _ (P : Primitives) (master : List ℕ) (c : Card) (table : List ℕ) wher
     where
       go : (bad : ℕ) → unusedBad P master c table ≡ bad → 1 ≤ bad
       go zero e =
-          absurd (b .1 (opened-opens i (all-open P (keyK P master (c .id)) (c .ctr) table (c .t + 1 - c .next) (c .next) n e i (b .0 .0) (omega (arith, b .0 .0, b .0 .1)))))
+          absurd (b .1 (opened-opens i (all-open P (keyK P master (c .id)) (c .version) (c .ctr) table (c .t + 1 - c .next) (c .next) n e i (b .0 .0) (omega (arith, b .0 .0, b .0 .1)))))
       go (suc bad) e = omega arith
 
   -- there is one lowest

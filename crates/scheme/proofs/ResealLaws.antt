@@ -74,9 +74,9 @@ some-there (some x) h = refl
 
 module _ (P : Primitives) where
   -- what opens has 32 bytes
-  pub token-32 : (key : List ℕ) (ctr i : ℕ) (rec x : List ℕ) → length rec ≡ 63 → tokenIn P key ctr i rec ≡ some x → length x ≡ 32
+  pub token-32 : (key : List ℕ) (v ctr i : ℕ) (rec x : List ℕ) → length rec ≡ 63 → tokenIn P key v ctr i rec ≡ some x → length x ≡ 32
   unfolding tokenIn bodyIn
-  token-32 key ctr i rec x h e = go (headFits 61 rec && eqb (ofBe (part 3 8 rec)) ctr && eqb (ofBe (part 11 4 rec)) i) e
+  token-32 key v ctr i rec x h e = go (headFits 61 v rec && eqb (ofBe (part 3 8 rec)) ctr && eqb (ofBe (part 11 4 rec)) i) e
     where
       body : Option (List ℕ)
       body = P .opened key (nonceBytes ctr i) (take 15 rec) (drop 15 rec)
@@ -93,21 +93,22 @@ module _ (P : Primitives) where
     abbrev pub made : ℕ → List ℕ → List ℕ
     made i x = workedDigest P (drawKey P master (c .id) i) (hashKey P master (c .id) i) (c .d) (c .r) work x
 
-    made-32 : (i : ℕ) (rec : List ℕ) → length rec ≡ 63 → there (tokenIn P key (c .ctr) i rec) ≡ true → length (made i (value (tokenIn P key (c .ctr) i rec))) ≡ 32
+    made-32 : (i : ℕ) (rec : List ℕ) → length rec ≡ 63 → there (tokenIn P key (c .version) (c .ctr) i rec) ≡ true
+        → length (made i (value (tokenIn P key (c .version) (c .ctr) i rec))) ≡ 32
     made-32 i rec h o =
-        let x = value (tokenIn P key (c .ctr) i rec) in
+        let x = value (tokenIn P key (c .version) (c .ctr) i rec) in
         length-worked P (drawKey P master (c .id) i) (hashKey P master (c .id) i) (c .d) (c .r) work x
-        (token-32 key (c .ctr) i rec x h (some-there (tokenIn P key (c .ctr) i rec) o))
+        (token-32 key (c .version) (c .ctr) i rec x h (some-there (tokenIn P key (c .version) (c .ctr) i rec) o))
 
-    resealed-63 : (i : ℕ) (rec : List ℕ) → length rec ≡ 63 → there (tokenIn P key (c .ctr) i rec) ≡ true → length (resealedRecord P master c work i rec) ≡ 63
+    resealed-63 : (i : ℕ) (rec : List ℕ) → length rec ≡ 63 → there (tokenIn P key (c .version) (c .ctr) i rec) ≡ true → length (resealedRecord P master c work i rec) ≡ 63
     unfolding resealedRecord
-    resealed-63 i rec h o = record-long P key (c .ctr + 1) i (made i (value (tokenIn P key (c .ctr) i rec))) (made-32 i rec h o)
+    resealed-63 i rec h o = record-long P key (c .version) (c .ctr + 1) i (made i (value (tokenIn P key (c .version) (c .ctr) i rec))) (made-32 i rec h o)
 
-    pub resealed-opens : (i : ℕ) (rec : List ℕ) → length rec ≡ 63 → there (tokenIn P key (c .ctr) i rec) ≡ true → c .ctr ≤ 4294967295 → i ≤ 65536
-        → tokenIn P key (c .ctr + 1) i (resealedRecord P master c work i rec) ≡ some (made i (value (tokenIn P key (c .ctr) i rec)))
+    pub resealed-opens : (i : ℕ) (rec : List ℕ) → length rec ≡ 63 → there (tokenIn P key (c .version) (c .ctr) i rec) ≡ true → c .ctr ≤ 4294967295 → i ≤ 65536
+        → tokenIn P key (c .version) (c .ctr + 1) i (resealedRecord P master c work i rec) ≡ some (made i (value (tokenIn P key (c .version) (c .ctr) i rec)))
     unfolding resealedRecord
     resealed-opens i rec h o l m =
-        token-back P key (c .ctr + 1) i (made i (value (tokenIn P key (c .ctr) i rec))) (made-32 i rec h o) (omega arith) (omega arith)
+        token-back P key (c .version) (c .ctr + 1) i (made i (value (tokenIn P key (c .version) (c .ctr) i rec))) (made-32 i rec h o) (omega arith) (omega arith)
 
     -- a table of t records after m records from i on were resealed
     pub record Resealed (t m i : ℕ) (table after : List ℕ) : Type 0 where
@@ -117,7 +118,7 @@ module _ (P : Primitives) where
 
     -- one record more, from the first
     module _ (t m i : ℕ) (table : List ℕ) (l : 1 ≤ i) (h : i + suc m ≤ t + 1) (e : length table ≡ t * 63)
-        (o : (j : ℕ) → i ≤ j → j < i + suc m → opens P key (c .ctr) table j ≡ true) where
+        (o : (j : ℕ) → i ≤ j → j < i + suc m → opens P key (c .version) (c .ctr) table j ≡ true) where
       abbrev new : List ℕ
       new = resealedRecord P master c work i (recordAt i table)
 
@@ -133,8 +134,8 @@ module _ (P : Primitives) where
       next-long : length next ≡ t * 63
       next-long = put-long i t new table l (omega arith) e new63
 
-      next-opens : (j : ℕ) → i + 1 ≤ j → j < i + 1 + m → opens P key (c .ctr) next j ≡ true
-      next-opens j u v = ap (λ (rec : List ℕ). there (tokenIn P key (c .ctr) j rec)) (later j (omega arith)) ∙ o j (omega arith) (omega arith)
+      next-opens : (j : ℕ) → i + 1 ≤ j → j < i + 1 + m → opens P key (c .version) (c .ctr) next j ≡ true
+      next-opens j u v = ap (λ (rec : List ℕ). there (tokenIn P key (c .version) (c .ctr) j rec)) (later j (omega arith)) ∙ o j (omega arith) (omega arith)
 
       one-resealed : (after : List ℕ) → Resealed t m (i + 1) next after → Resealed t (suc m) i table after
       one-resealed after ih = record {
@@ -160,7 +161,7 @@ module _ (P : Primitives) where
           either j u v (no q) = ih .at j (omega arith) (omega arith) ∙ ap (resealedRecord P master c work j) (later j (omega arith))
 
     pub resealed : (t m i : ℕ) (table : List ℕ) → 1 ≤ i → i + m ≤ t + 1 → length table ≡ t * 63
-        → ((j : ℕ) → i ≤ j → j < i + m → opens P key (c .ctr) table j ≡ true) → Resealed t m i table (reseal P master c work m i table)
+        → ((j : ℕ) → i ≤ j → j < i + m → opens P key (c .version) (c .ctr) table j ≡ true) → Resealed t m i table (reseal P master c work m i table)
     unfolding reseal
     resealed t zero i table l h e o = record { long = e; at = λ j u v. absurd (omega arith); front = refl }
     resealed t (suc m) i table l h e o =
@@ -169,13 +170,13 @@ module _ (P : Primitives) where
 
   -- the token in the unused record i of a table, under a card's counter
   abbrev pub inside : List ℕ → Card → List ℕ → ℕ → Option (List ℕ)
-  inside master c table i = tokenIn P (keyK P master (c .id)) (c .ctr) i (recordAt i table)
+  inside master c table i = tokenIn P (keyK P master (c .id)) (c .version) (c .ctr) i (recordAt i table)
 
   -- the number of blocks after an accepted change is within its limits
   blocks-fit : (master : List ℕ) (c : Card) (table : List ℕ) (edit : Edit) → Changed P master c table edit
       → (1 ≤ blocksAfter c edit) × (blocksAfter c edit ≤ 16777216)
-  blocks-fit master c table (update m old new) u = let l = card-limits c (u .fits) in (l .n1, l .nmost)
-  blocks-fit master c table (delete m old) u = let l = card-limits c (u .fits) in (l .n1, l .nmost)
+  blocks-fit master c table (update m old mark new) u = let l = card-limits c (u .fits) in (l .n1, l .nmost)
+  blocks-fit master c table (delete m old mark) u = let l = card-limits c (u .fits) in (l .n1, l .nmost)
   blocks-fit master c table (append new) u = (omega arith, omega (arith, ltb-true (c .n) 16777216 (u .placed 5)))
   blocks-fit master c table (load blocks) u =
       (omega (arith, card-limits c (u .fits) .n1), leb-true (c .n + length blocks / c .B) 16777216 (u .placed 5))
@@ -192,11 +193,11 @@ module _ (P : Primitives) where
 
     -- the unused records open
     open-before : (j : ℕ) → (readCard card) .next ≤ j → j < (readCard card) .next + ((readCard card) .t + 1 - (readCard card) .next)
-        → opens P (keyK P master ((readCard card) .id)) ((readCard card) .ctr) table j ≡ true
+        → opens P (keyK P master ((readCard card) .id)) ((readCard card) .version) ((readCard card) .ctr) table j ≡ true
     unfolding unusedBad
     open-before =
         let c = readCard card in
-        all-open P (keyK P master (c .id)) (c .ctr) table (c .t + 1 - c .next) (c .next) (limits .next1) (has .sound)
+        all-open P (keyK P master (c .id)) (c .version) (c .ctr) table (c .t + 1 - c .next) (c .next) (limits .next1) (has .sound)
 
     pub was-inside : (i : ℕ) → (readCard card) .next ≤ i → i ≤ (readCard card) .t → inside master (readCard card) table i ≡ some (value (inside master (readCard card) table i))
     was-inside i h l = some-there (inside master (readCard card) table i) (open-before i h (omega arith))
@@ -221,11 +222,11 @@ module _ (P : Primitives) where
 
     -- the unused record i opens, one counter up, to what the change makes of its token
     pub now-inside : (i : ℕ) → (readCard card) .next ≤ i → i ≤ (readCard card) .t
-        → tokenIn P (keyK P master ((readCard card) .id)) ((readCard card) .ctr + 1) i (recordAt i (changeTable P master card table edit))
+        → tokenIn P (keyK P master ((readCard card) .id)) ((readCard card) .version) ((readCard card) .ctr + 1) i (recordAt i (changeTable P master card table edit))
         ≡ some (made master (readCard card) (workOf (readCard card) edit) i (value (inside master (readCard card) table i)))
     now-inside i h l =
         let c = readCard card in
-        ap (tokenIn P (keyK P master (c .id)) (c .ctr + 1) i) (record-changed i h l)
+        ap (tokenIn P (keyK P master (c .id)) (c .version) (c .ctr + 1) i) (record-changed i h l)
         ∙ resealed-opens master c (workOf c edit) i (recordAt i table)
         (record-63 i (c .t) table (omega (arith, limits .next1)) l (has .long)) (open-before i h (omega arith)) (limits .ctrmost) (omega (arith, limits .tmost))
 

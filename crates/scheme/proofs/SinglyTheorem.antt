@@ -2,21 +2,23 @@
 --   calls, AllAccepted          changes as calls of their own, all accepted
 --   workSingly, cardAfter       the block changes that they make together, and the card after them
 --   Alike, alike                what is the same, of any change that makes the same block changes
---   appends, load-singly        #101: a load, and its blocks appended one by one
+--   appends, blocksIn           blocks appended one by one, and those of a load
+--   load-singly                 #101: a load, and its blocks appended one by one
 --   corrections, batch-singly   #104: a batch, and its items as updates and deletions
-use Prim.Native.Nat.{ℕ, zero, suc, _+_, _*_, _-_, _/_, _%_, _≤_, _<_}
+use Prim.Native.Nat.{ℕ, zero, suc, _+_, _*_, _-_, _/_, _%_, _≤_}
 use native.Mathlib.Omega.{arith}
 use native.Mathlib.Nat.{div-add-mod', zero-mul}
 use mathlib.Core.Path.{_≡_, refl, sym, ap, _∙_}
 use mathlib.Core.List.{List, [], _∷_, _++_}
 use mathlib.Core.Option.{some}
-use mathlib.Core.Bool.{Bool, true, false, cond, _&&_}
+use mathlib.Core.Bool.{Bool, true, false, cond}
 use borrow.Author.Tests.{eqb-true, ltb-true}
 use lib.ListN.{length, take, drop, replicate}
 use lib.Dec.{eqb, ltb}
 use Rattle.octets.specs.Octets.{le, be}
 use Rattle.scheme.specs.Lists.{pieces}
 use Rattle.scheme.specs.Primitives.{Primitives}
+use Rattle.scheme.specs.Marks.{live, deleted, alike as allMarked}
 use Rattle.scheme.specs.Records.{Card, cardBytes, readCard}
 use Rattle.scheme.specs.Tokens.{Change, replaced, added, addedFrom, drawKey, hashKey, workedDigest}
 use Rattle.scheme.specs.Table.{there, value}
@@ -54,7 +56,7 @@ workSingly c (e ∷ es) = workOf c e ++ workSingly (changedCard c (blocksAfter c
 
 -- a card with another number of blocks, at another counter
 unfoldable atCounter : Card → ℕ → ℕ → Card
-atCounter c n ctr = record { id = c .id; B = c .B; d = c .d; r = c .r; t = c .t; n = n; ctr = ctr; next = c .next; open′ = c .open′ }
+atCounter c n ctr = record { version = c .version; id = c .id; B = c .B; d = c .d; r = c .r; t = c .t; n = n; ctr = ctr; next = c .next; open′ = c .open′ }
 
 -- each change takes one counter step
 stepped : (es : List Edit) (c : Card) → cardAfter c es ≡ atCounter c ((cardAfter c es) .n) (c .ctr + length es)
@@ -74,7 +76,7 @@ apart c n x y h =
     (λ x₁ x₂ x₃ x₄ x₅ x₆ x₇ x₈. (refl, refl)) (c .id) h
   where
     at : List ℕ → ℕ → Card
-    at id ctr = record { id = id; B = c .B; d = c .d; r = c .r; t = c .t; n = n; ctr = ctr; next = c .next; open′ = c .open′ }
+    at id ctr = record { version = c .version; id = id; B = c .B; d = c .d; r = c .r; t = c .t; n = n; ctr = ctr; next = c .next; open′ = c .open′ }
 
 -- what is the same of card and table after one change, `one` and `left`, and after several made singly
 pub record Alike (P : Primitives) (master card table : List ℕ) (single : Ran) (one left : List ℕ) (count : ℕ) : Type 0 where
@@ -218,10 +220,11 @@ abbrev pub appends : List (List ℕ) → List Edit
 appends [] = []
 appends (x ∷ xs) = append x ∷ appends xs
 
-append-work : (c : Card) (xs : List (List ℕ)) → addedFrom (c .n + 1) xs ≡ workSingly c (appends xs)
-unfolding addedFrom workSingly changedCard
+append-work : (c : Card) (xs : List (List ℕ)) → addedFrom (c .n + 1) (allMarked (live (c .version)) xs) ≡ workSingly c (appends xs)
+unfolding addedFrom allMarked workSingly changedCard
 append-work c [] = refl
-append-work c (x ∷ xs) = ap (λ (work : List (ℕ × Change)). (c .n + 1, added x) ∷ work) (append-work (changedCard c (c .n + 1)) xs)
+append-work c (x ∷ xs) =
+    ap (λ (work : List (ℕ × Change)). (c .n + 1, added (live (c .version) ++ x)) ∷ work) (append-work (changedCard c (c .n + 1)) xs)
 
 append-count : (c : Card) (xs : List (List ℕ)) → c .n + length xs ≡ (cardAfter c (appends xs)) .n
 unfolding cardAfter changedCard
@@ -232,13 +235,15 @@ append-many : (xs : List (List ℕ)) → length (appends xs) ≡ length xs
 append-many [] = refl
 append-many (x ∷ xs) = ap suc (append-many xs)
 
+-- the blocks of a load
+abbrev pub blocksIn : Card → List ℕ → List (List ℕ)
+blocksIn c blocks = pieces (c .B) (length blocks / c .B) blocks
+
 module _ (P : Primitives) (master card table blocks : List ℕ) where
-  -- the blocks of the load
   abbrev news : List (List ℕ)
-  news = loaded (readCard card) blocks
+  news = blocksIn (readCard card) blocks
 
   many : length news ≡ length blocks / (readCard card) .B
-  unfolding loaded
   many = pieces-length ((readCard card) .B) (length blocks / (readCard card) .B) blocks
 
   -- an accepted load has a block at least
@@ -262,40 +267,40 @@ module _ (P : Primitives) (master card table blocks : List ℕ) where
       let c = readCard card in
       let n = append-many news in
       rw (← n)
-      (alike P master card table (load blocks) (appends news) (omega (arith, not-empty ok)) ok a (append-work c news)
+      (alike P master card table (load blocks) (appends news) (omega (arith, not-empty ok)) ok a (unfold loaded in append-work c news)
       (ap (λ (k : ℕ). c .n + k) (sym many) ∙ append-count c news))
 
 -- an item as a change of its own: "1 update, 2 delete"
 abbrev pub itemEdit : Item → Edit
-itemEdit x = cond (eqb (x .kind) 1) (update (x .number) (x .old) (x .new)) (delete (x .number) (x .old))
+itemEdit x = cond (eqb (x .kind) 1) (update (x .number) (x .old) (x .mark) (x .new)) (delete (x .number) (x .old) (x .mark))
 
 -- "the same changes made singly"
 abbrev pub corrections : List Item → List Edit
 corrections [] = []
 corrections (x ∷ xs) = itemEdit x ∷ corrections xs
 
-item-work : (c : Card) (x : Item) → workOf c (itemEdit x) ≡ (x .number, replaced (x .old) (itemBlock (c .B) x)) ∷ []
+item-work : (c : Card) (x : Item) → workOf c (itemEdit x) ≡ (x .number, replaced (x .mark ++ x .old) (itemBlock (c .version) (c .B) x)) ∷ []
 unfolding itemBlock
 item-work c x = go (eqb (x .kind) 1)
   where
-    go : (k : Bool) → workOf c (cond k (update (x .number) (x .old) (x .new)) (delete (x .number) (x .old)))
-        ≡ (x .number, replaced (x .old) (cond k (x .new) (replicate (c .B) 0))) ∷ []
+    go : (k : Bool) → workOf c (cond k (update (x .number) (x .old) (x .mark) (x .new)) (delete (x .number) (x .old) (x .mark)))
+        ≡ (x .number, replaced (x .mark ++ x .old) (cond k (live (c .version) ++ x .new) (deleted (c .version) ++ replicate (c .B) 0))) ∷ []
     go true = refl
     go false = refl
 
 item-count : (c : Card) (x : Item) → blocksAfter c (itemEdit x) ≡ c .n
 item-count c x = go (eqb (x .kind) 1)
   where
-    go : (k : Bool) → blocksAfter c (cond k (update (x .number) (x .old) (x .new)) (delete (x .number) (x .old))) ≡ c .n
+    go : (k : Bool) → blocksAfter c (cond k (update (x .number) (x .old) (x .mark) (x .new)) (delete (x .number) (x .old) (x .mark))) ≡ c .n
     go true = refl
     go false = refl
 
-corrected-work : (c : Card) (xs : List Item) → batchWork (c .B) xs ≡ workSingly c (corrections xs)
+corrected-work : (c : Card) (xs : List Item) → batchWork (c .version) (c .B) xs ≡ workSingly c (corrections xs)
 unfolding batchWork workSingly changedCard
 corrected-work c [] = refl
 corrected-work c (x ∷ xs) =
     rw (item-work c x, item-count c x)
-    (ap (λ (work : List (ℕ × Change)). (x .number, replaced (x .old) (itemBlock (c .B) x)) ∷ work) (corrected-work (changedCard c (c .n)) xs))
+    (ap (λ (work : List (ℕ × Change)). (x .number, replaced (x .mark ++ x .old) (itemBlock (c .version) (c .B) x)) ∷ work) (corrected-work (changedCard c (c .n)) xs))
 
 corrected-count : (c : Card) (xs : List Item) → c .n ≡ (cardAfter c (corrections xs)) .n
 unfolding cardAfter changedCard

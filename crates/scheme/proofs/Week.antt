@@ -10,58 +10,59 @@ use lib.ListN.{length, replicate}
 use Rattle.octets.specs.Octets.{le, be, ofLe, ofBe, put, same, xors}
 use Rattle.scheme.specs.Ladder.{first}
 use Rattle.scheme.specs.Lists.{joined, pieces, recordsFrom, xorBelow}
-use Rattle.scheme.specs.Records.{cardBytes, readCard, shapeFits, tokenFits, blocksFit, cardFits, headFits, clearBytes, nonceBytes, recordAt}
+use Rattle.scheme.specs.Marks.{versionFits, marksIn, live, deleted, alike, marksFit}
+use Rattle.scheme.specs.Records.{cardBytes, readCard, shapeFits, tokenFits, blocksFit, cardFits, headFits, headKnown, clearBytes, nonceBytes, recordAt}
 use Rattle.scheme.specs.Tokens.{rowOf, columnOf, blockIn, columnsOf, blockAt, indexOf, keyW, keyZ, keyK, drawKey, hashKey, blockHash}
 use Rattle.scheme.specs.Tokens.{columnHash, drawnRow, positionOf, rowDigest, digest, token, addedFrom, mixed, changedDigest, workedDigest}
 use Rattle.scheme.specs.Table.{sealedRecord, bodyIn, tokenIn, firstBad, resealedRecord, reseal}
 use Rattle.scheme.specs.Judging.{causeNumber, verdictOf, cause, verdict}
-use Rattle.scheme.specs.Batches.{itemSize, readItem, itemsFrom, itemsOf, kindsFit, risingFrom, rising, batchFits, numbersFit, itemBlock, batchWork}
+use Rattle.scheme.specs.Batches.{itemSize, readItem, itemsFrom, itemsOf, kindsFit, risingFrom, rising, batchFits, itemMarksFit, numbersFit, itemBlock, batchWork}
 use Rattle.scheme.specs.Calls.{update, delete, append, load, batch, loaded, changedCard, turnedCard, setUpCode, setUpCard, setUpTable, unusedBad, changeCode}
 use Rattle.scheme.specs.Calls.{changeCard, changeTable, drawCode, drawCard, judgeFault, judgeCode, judgeCard}
 use Rattle.scheme.specs.Book.{Call, change, draw, judge, Lent, Ran, run, started, bookCard, withBlocks, withTurn, freshToken, freshRecord}
 use Rattle.scheme.specs.Book.{bookTable, bookFault, bookAfter, Honest, corrected}
 use Rattle.scheme.proofs.SinglyTheorem.{calls}
-use Rattle.scheme.proofs.Computed.{standIn, key, id, item, blank}
+use Rattle.scheme.proofs.Computed.{standIn, key, id, item, markedItem, blank}
 
 -- lent the key
 abbrev lent : Call → Lent
 lent x = record { master = key; call = x }
 
--- after a set-up with B 1, d 2, r 1, t 1: judge with nothing open; update block 0; update by a block of two bytes; update with a master of 31 bytes;
+-- after a set-up in version 2 with B 1, d 2, r 1, t 1: judge with nothing open; update block 0; update by a block of two bytes; update with a master of 31 bytes;
 -- update, append and delete; delete block 4; load nothing; load two blocks; a batch of no bytes; update block 2 and delete block 4 in a batch;
 -- draw to a buffer of 90 bytes; draw; draw and append while a token is open; judge a reply of no bytes; "t 1, one draw judged, draw"; append with no token left
 abbrev weekCalls : List Lent
 weekCalls =
-    lent (judge []) ∷ lent (change (update 0 (5 ∷ []) (9 ∷ []))) ∷ lent (change (update 1 (5 ∷ []) (9 ∷ 9 ∷ [])))
-    ∷ record { master = replicate 31 7; call = change (update 1 (5 ∷ []) (9 ∷ [])) }
-    ∷ lent (change (update 1 (5 ∷ []) (9 ∷ []))) ∷ lent (change (append (8 ∷ []))) ∷ lent (change (delete 3 (8 ∷ []))) ∷ lent (change (delete 4 (8 ∷ [])))
+    lent (judge []) ∷ lent (change (update 0 (5 ∷ []) (0 ∷ []) (9 ∷ []))) ∷ lent (change (update 1 (5 ∷ []) (0 ∷ []) (9 ∷ 9 ∷ [])))
+    ∷ record { master = replicate 31 7; call = change (update 1 (5 ∷ []) (0 ∷ []) (9 ∷ [])) }
+    ∷ lent (change (update 1 (5 ∷ []) (0 ∷ []) (9 ∷ []))) ∷ lent (change (append (8 ∷ []))) ∷ lent (change (delete 3 (8 ∷ []) (0 ∷ []))) ∷ lent (change (delete 4 (8 ∷ []) (0 ∷ [])))
     ∷ lent (change (load [])) ∷ lent (change (load (3 ∷ 4 ∷ [])))
-    ∷ lent (change (batch [])) ∷ lent (change (batch (item 1 2 6 7 ++ item 2 4 3 9)))
+    ∷ lent (change (batch [])) ∷ lent (change (batch (markedItem 1 2 6 0 7 ++ markedItem 2 4 3 0 9)))
     ∷ lent (draw (replicate 90 0)) ∷ lent (draw blank) ∷ lent (draw blank) ∷ lent (change (append (8 ∷ []))) ∷ lent (judge []) ∷ lent (draw blank)
     ∷ lent (change (append (3 ∷ []))) ∷ []
 
 pub week : _≡_ {A = Ran}
     (run standIn weekCalls
-    (setUpCard standIn key id 1 2 1 1 2 (5 ∷ 6 ∷ []) (replicate 43 0) (replicate 63 0))
-    (setUpTable standIn key id 1 2 1 1 2 (5 ∷ 6 ∷ []) (replicate 43 0) (replicate 63 0)))
+    (setUpCard standIn key id 2 1 2 1 1 2 (5 ∷ 6 ∷ []) (replicate 43 0) (replicate 63 0))
+    (setUpTable standIn key id 2 1 2 1 1 2 (5 ∷ 6 ∷ []) (replicate 43 0) (replicate 63 0)))
     (record {
       numbers = 9 ∷ 4 ∷ 1 ∷ 1 ∷ 0 ∷ 0 ∷ 0 ∷ 4 ∷ 12 ∷ 0 ∷ 14 ∷ 0 ∷ 1 ∷ 0 ∷ 8 ∷ 8 ∷ 11 ∷ 6 ∷ 0 ∷ [];
       card =
-          0 ∷ 41 ∷ 1 ∷ 1 ∷ 2 ∷ 3 ∷ 4 ∷ 5 ∷ 6 ∷ 7 ∷ 8 ∷ 0 ∷ 1 ∷ 0 ∷ 0 ∷ 0 ∷ 2 ∷ 0 ∷ 1 ∷ 0 ∷ 0 ∷ 0 ∷ 1 ∷ 0 ∷ 0 ∷ 0 ∷ 6 ∷ 0 ∷ 0 ∷ 0 ∷ 0 ∷ 0 ∷ 0 ∷ 0 ∷ 6
+          0 ∷ 41 ∷ 2 ∷ 1 ∷ 2 ∷ 3 ∷ 4 ∷ 5 ∷ 6 ∷ 7 ∷ 8 ∷ 0 ∷ 1 ∷ 0 ∷ 0 ∷ 0 ∷ 2 ∷ 0 ∷ 1 ∷ 0 ∷ 0 ∷ 0 ∷ 1 ∷ 0 ∷ 0 ∷ 0 ∷ 6 ∷ 0 ∷ 0 ∷ 0 ∷ 0 ∷ 0 ∷ 0 ∷ 0 ∷ 6
           ∷ 0 ∷ 0 ∷ 0 ∷ 2 ∷ 0 ∷ 0 ∷ 0 ∷ 0 ∷ [];
-      table = sealedRecord standIn (keyK standIn key id) 5 1 (token standIn key id 2 1 1 ((9 ∷ []) ∷ (7 ∷ []) ∷ (0 ∷ []) ∷ (0 ∷ []) ∷ (4 ∷ []) ∷ []));
+      table = sealedRecord standIn (keyK standIn key id) 2 5 1 (token standIn key id 2 1 1 ((0 ∷ 9 ∷ []) ∷ (0 ∷ 7 ∷ []) ∷ (1 ∷ 0 ∷ []) ∷ (1 ∷ 0 ∷ []) ∷ (0 ∷ 4 ∷ []) ∷ []));
     })
-unfolding run be le ofBe ofLe put same xors first joined pieces xorBelow recordsFrom cardBytes readCard shapeFits tokenFits blocksFit cardFits headFits clearBytes
+unfolding run be le ofBe ofLe put same xors first joined pieces xorBelow recordsFrom cardBytes readCard shapeFits tokenFits blocksFit cardFits headFits headKnown versionFits marksIn live deleted alike marksFit clearBytes
     nonceBytes recordAt rowOf columnOf blockIn columnsOf blockAt indexOf keyW keyZ keyK drawKey hashKey blockHash columnHash drawnRow positionOf rowDigest digest token
-    addedFrom loaded itemSize readItem itemsFrom itemsOf kindsFit risingFrom rising batchFits numbersFit itemBlock batchWork mixed changedDigest workedDigest sealedRecord bodyIn tokenIn firstBad resealedRecord reseal causeNumber verdictOf cause verdict changedCard
+    addedFrom loaded itemSize readItem itemsFrom itemsOf kindsFit risingFrom rising batchFits itemMarksFit numbersFit itemBlock batchWork mixed changedDigest workedDigest sealedRecord bodyIn tokenIn firstBad resealedRecord reseal causeNumber verdictOf cause verdict changedCard
     turnedCard setUpCode setUpCard setUpTable unusedBad changeCode changeCard changeTable drawCode drawCard judgeFault judgeCode judgeCard
 week = refl
 
 -- the list theorem speaks of this list
-pub week-honest : (setUpCode standIn key id 1 2 1 1 2 (5 ∷ 6 ∷ []) (replicate 43 0) (replicate 63 0) ≡ 0) × Honest standIn weekCalls (started key id 1 2 1 1 2 (5 ∷ 6 ∷ []))
-unfolding be le ofBe ofLe put same xors first joined pieces xorBelow recordsFrom cardBytes readCard shapeFits tokenFits blocksFit cardFits headFits clearBytes nonceBytes
+pub week-honest : (setUpCode standIn key id 2 1 2 1 1 2 (5 ∷ 6 ∷ []) (replicate 43 0) (replicate 63 0) ≡ 0) × Honest standIn weekCalls (started key id 2 1 2 1 1 2 (5 ∷ 6 ∷ []))
+unfolding be le ofBe ofLe put same xors first joined pieces xorBelow recordsFrom cardBytes readCard shapeFits tokenFits blocksFit cardFits headFits headKnown versionFits marksIn live deleted alike marksFit clearBytes nonceBytes
     recordAt rowOf columnOf blockIn columnsOf blockAt indexOf keyW keyZ keyK drawKey hashKey blockHash columnHash drawnRow positionOf rowDigest digest token addedFrom
-    loaded itemSize readItem itemsFrom itemsOf kindsFit risingFrom rising batchFits numbersFit itemBlock batchWork mixed changedDigest workedDigest sealedRecord bodyIn tokenIn firstBad resealedRecord reseal causeNumber verdictOf cause verdict changedCard turnedCard
+    loaded itemSize readItem itemsFrom itemsOf kindsFit risingFrom rising batchFits itemMarksFit numbersFit itemBlock batchWork mixed changedDigest workedDigest sealedRecord bodyIn tokenIn firstBad resealedRecord reseal causeNumber verdictOf cause verdict changedCard turnedCard
     setUpCode setUpCard setUpTable unusedBad changeCode changeCard changeTable drawCode drawCard judgeFault judgeCode judgeCard started bookCard withBlocks withTurn
     freshToken freshRecord bookTable bookFault bookAfter corrected
 week-honest =
@@ -114,40 +115,46 @@ week-honest =
       ),
     )
 
--- what calls leave after a set-up with B 1, d 5, r 4, t 1 and the one block 5
-abbrev monthOf : List Lent → Ran
-monthOf xs =
+-- what calls leave after a set-up in a version with B 1, d 5, r 4, t 1 and the one block 5
+abbrev monthOf : ℕ → List Lent → Ran
+monthOf v xs =
     run standIn xs
-    (setUpCard standIn key id 1 5 4 1 1 (5 ∷ []) (replicate 43 0) (replicate 63 0))
-    (setUpTable standIn key id 1 5 4 1 1 (5 ∷ []) (replicate 43 0) (replicate 63 0))
+    (setUpCard standIn key id v 1 5 4 1 1 (5 ∷ []) (replicate 43 0) (replicate 63 0))
+    (setUpTable standIn key id v 1 5 4 1 1 (5 ∷ []) (replicate 43 0) (replicate 63 0))
 
--- the card and the table of that file with blocks at a counter
-abbrev after : List ℕ → ℕ → List (List ℕ) → Ran
-after numbers ctr blocks = record {
+-- the card and the table of that file with its contents at a counter
+abbrev after : ℕ → List ℕ → ℕ → List (List ℕ) → Ran
+after v numbers ctr blocks = record {
   numbers = numbers;
-  card = cardBytes (record { id = id; B = 1; d = 5; r = 4; t = 1; n = length blocks; ctr = ctr; next = 1; open′ = 0 });
-  table = sealedRecord standIn (keyK standIn key id) ctr 1 (token standIn key id 5 4 1 blocks);
+  card = cardBytes (record { version = v; id = id; B = 1; d = 5; r = 4; t = 1; n = length blocks; ctr = ctr; next = 1; open′ = 0 });
+  table = sealedRecord standIn (keyK standIn key id) v ctr 1 (token standIn key id 5 4 1 blocks);
 }
 
 abbrev six : List (List ℕ)
 six = (5 ∷ []) ∷ (6 ∷ []) ∷ (7 ∷ []) ∷ (8 ∷ []) ∷ (9 ∷ []) ∷ (3 ∷ []) ∷ []
 
-pub month : (monthOf (calls key (load (6 ∷ 7 ∷ 8 ∷ 9 ∷ 3 ∷ []) ∷ [])) ≡ after (0 ∷ []) 1 six)
-    × (monthOf (calls key (append (6 ∷ []) ∷ append (7 ∷ []) ∷ append (8 ∷ []) ∷ append (9 ∷ []) ∷ append (3 ∷ []) ∷ [])) ≡ after (0 ∷ 0 ∷ 0 ∷ 0 ∷ 0 ∷ []) 5 six)
-unfolding run be le ofBe ofLe put same xors first joined pieces xorBelow recordsFrom cardBytes readCard shapeFits tokenFits blocksFit cardFits headFits clearBytes
+pub month : (monthOf 1 (calls key (load (6 ∷ 7 ∷ 8 ∷ 9 ∷ 3 ∷ []) ∷ [])) ≡ after 1 (0 ∷ []) 1 six)
+    × (monthOf 1 (calls key (append (6 ∷ []) ∷ append (7 ∷ []) ∷ append (8 ∷ []) ∷ append (9 ∷ []) ∷ append (3 ∷ []) ∷ [])) ≡ after 1 (0 ∷ 0 ∷ 0 ∷ 0 ∷ 0 ∷ []) 5 six)
+unfolding run be le ofBe ofLe put same xors first joined pieces xorBelow recordsFrom cardBytes readCard shapeFits tokenFits blocksFit cardFits headFits headKnown versionFits marksIn live deleted alike marksFit clearBytes
     nonceBytes recordAt rowOf columnOf blockIn columnsOf blockAt indexOf keyW keyZ keyK drawKey hashKey blockHash columnHash drawnRow positionOf rowDigest digest token
-    addedFrom loaded itemSize readItem itemsFrom itemsOf kindsFit risingFrom rising batchFits numbersFit itemBlock batchWork mixed changedDigest workedDigest sealedRecord
+    addedFrom loaded itemSize readItem itemsFrom itemsOf kindsFit risingFrom rising batchFits itemMarksFit numbersFit itemBlock batchWork mixed changedDigest workedDigest sealedRecord
     bodyIn tokenIn firstBad resealedRecord reseal changedCard setUpCode setUpCard setUpTable unusedBad changeCode changeCard changeTable
 month = (refl, refl)
 
 abbrev mended : List (List ℕ)
 mended = (5 ∷ []) ∷ (4 ∷ []) ∷ (7 ∷ []) ∷ (8 ∷ []) ∷ (0 ∷ []) ∷ (1 ∷ []) ∷ []
 
-pub morning : (monthOf (calls key (load (6 ∷ 7 ∷ 8 ∷ 9 ∷ 3 ∷ []) ∷ batch (item 1 2 6 4 ++ item 2 5 9 8 ++ item 1 6 3 1) ∷ [])) ≡ after (0 ∷ 0 ∷ []) 2 mended)
-    × (monthOf (calls key (load (6 ∷ 7 ∷ 8 ∷ 9 ∷ 3 ∷ []) ∷ update 2 (6 ∷ []) (4 ∷ []) ∷ delete 5 (9 ∷ []) ∷ update 6 (3 ∷ []) (1 ∷ []) ∷ []))
-    ≡ after (0 ∷ 0 ∷ 0 ∷ 0 ∷ []) 4 mended)
-unfolding run be le ofBe ofLe put same xors first joined pieces xorBelow recordsFrom cardBytes readCard shapeFits tokenFits blocksFit cardFits headFits clearBytes
+abbrev mendedTwo : List (List ℕ)
+mendedTwo = (0 ∷ 5 ∷ []) ∷ (0 ∷ 4 ∷ []) ∷ (0 ∷ 7 ∷ []) ∷ (0 ∷ 8 ∷ []) ∷ (1 ∷ 0 ∷ []) ∷ (0 ∷ 1 ∷ []) ∷ []
+
+pub morning : (monthOf 1 (calls key (load (6 ∷ 7 ∷ 8 ∷ 9 ∷ 3 ∷ []) ∷ batch (item 1 2 6 4 ++ item 2 5 9 8 ++ item 1 6 3 1) ∷ [])) ≡ after 1 (0 ∷ 0 ∷ []) 2 mended)
+    × (monthOf 1 (calls key (load (6 ∷ 7 ∷ 8 ∷ 9 ∷ 3 ∷ []) ∷ update 2 (6 ∷ []) [] (4 ∷ []) ∷ delete 5 (9 ∷ []) [] ∷ update 6 (3 ∷ []) [] (1 ∷ []) ∷ []))
+    ≡ after 1 (0 ∷ 0 ∷ 0 ∷ 0 ∷ []) 4 mended)
+    × (monthOf 2 (calls key (load (6 ∷ 7 ∷ 8 ∷ 9 ∷ 3 ∷ []) ∷ batch (markedItem 1 2 6 0 4 ++ markedItem 2 5 9 0 8 ++ markedItem 1 6 3 0 1) ∷ [])) ≡ after 2 (0 ∷ 0 ∷ []) 2 mendedTwo)
+    × (monthOf 2 (calls key (load (6 ∷ 7 ∷ 8 ∷ 9 ∷ 3 ∷ []) ∷ update 2 (6 ∷ []) (0 ∷ []) (4 ∷ []) ∷ delete 5 (9 ∷ []) (0 ∷ []) ∷ update 6 (3 ∷ []) (0 ∷ []) (1 ∷ []) ∷ []))
+    ≡ after 2 (0 ∷ 0 ∷ 0 ∷ 0 ∷ []) 4 mendedTwo)
+unfolding run be le ofBe ofLe put same xors first joined pieces xorBelow recordsFrom cardBytes readCard shapeFits tokenFits blocksFit cardFits headFits headKnown versionFits marksIn live deleted alike marksFit clearBytes
     nonceBytes recordAt rowOf columnOf blockIn columnsOf blockAt indexOf keyW keyZ keyK drawKey hashKey blockHash columnHash drawnRow positionOf rowDigest digest token
-    addedFrom loaded itemSize readItem itemsFrom itemsOf kindsFit risingFrom rising batchFits numbersFit itemBlock batchWork mixed changedDigest workedDigest sealedRecord
+    addedFrom loaded itemSize readItem itemsFrom itemsOf kindsFit risingFrom rising batchFits itemMarksFit numbersFit itemBlock batchWork mixed changedDigest workedDigest sealedRecord
     bodyIn tokenIn firstBad resealedRecord reseal changedCard setUpCode setUpCard setUpTable unusedBad changeCode changeCard changeTable
-morning = (refl, refl)
+morning = (refl, refl, refl, refl)

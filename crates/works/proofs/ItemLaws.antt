@@ -1,6 +1,6 @@
 -- The digest after one more block change. Assumes nothing.
 --   after-none, after-all          no change; all of them
---   after-grown                    blocks added one after the other
+--   after-grown                    live blocks added one after the other
 --   after-one                      a change that comes alone
 --   row-below, seat-below, seated  where a walk begins and ends
 --   item-undrawn, item-drawn       one more, where the token does not draw its row, and where it does
@@ -21,13 +21,12 @@ use Rattle.chacha20.specs.ChaCha20.{keyWords}
 use Rattle.permutation.specs.Permutation.{backward}
 use Rattle.permutation.proofs.PermutationLaws.{backward-below}
 use Rattle.scheme.specs.Tokens.{Change, replaced, added, addedFrom, rowOf, columnOf, indexOf, positionOf, mixed, changedDigest, workedDigest}
-use Rattle.scheme.specs.Batches.{itemBlock}
+use Rattle.scheme.specs.Marks.{live, alike}
 use Rattle.scheme.specs.Lists.{pieces}
 use Rattle.scheme.proofs.TokenLaws.{worked-append}
 use Rattle.standard.specs.Standard.{standard}
 use Rattle.tokens.specs.Keyed.{changeOf}
-use Rattle.batches.specs.Items.{itemIn}
-use Rattle.items.specs.Items.{numberAt, changeAt, itemsBelow, itemsOf, alone}
+use Rattle.items.specs.Items.{numberAt, changeAt, severalAt, itemsBelow, itemsOf, alone}
 use Rattle.items.specs.declared.Work.{Work}
 use Rattle.items.proofs.ListLaws.{items-same, items-added}
 use Rattle.works.specs.Runs.{after}
@@ -77,28 +76,28 @@ pieces-taken B (suc n) xs h =
     ∙ ap₂ (λ (u : List ℕ) (v : List (List ℕ)). u ∷ v) (take-take B (B + n * B) xs (omega arith))
     (ap (pieces B n) (drop-taken B (n * B) xs (omega arith)) ∙ pieces-taken B n (drop B xs) inside)
 
--- the old contents of several changes are not read from a buffer of their own
-old-unread : (w : Work) (old new : List ℕ) (e : ℕ) → (w .listed ≡ false → w .fresh ≡ true) → changeAt w new new e ≡ changeAt w old new e
+-- the old contents of several changes are not read from a buffer of their own, and added blocks are live
+old-unread : (w : Work) (om old nm new : List ℕ) (e : ℕ) → (w .listed ≡ false → w .fresh ≡ true) → nm ≡ live (w .version)
+    → severalAt w new e ≡ changeAt w om old nm new e
 unfolding changeAt changeOf
-old-unread w old new e f = go (w .listed) (w .fresh) f
+old-unread w om old nm new e f en =
+    ap (λ (m : List ℕ). changeAt w [] [] m new e) (sym en)
+    ∙ go (w .listed) (w .fresh) f _ (nm ++ part (e * w .size) (w .size) new) ([] ++ part (e * w .size) (w .size) []) (om ++ part (e * w .size) (w .size) old)
   where
-    go : (l b : Bool) → (l ≡ false → b ≡ true)
-        → cond l (replaced (itemIn (w .size) e new .old) (itemBlock (w .size) (itemIn (w .size) e new)))
-        (cond b (added (part (e * w .size) (w .size) new)) (replaced (part (e * w .size) (w .size) new) (part (e * w .size) (w .size) new)))
-        ≡ cond l (replaced (itemIn (w .size) e new .old) (itemBlock (w .size) (itemIn (w .size) e new)))
-        (cond b (added (part (e * w .size) (w .size) new)) (replaced (part (e * w .size) (w .size) old) (part (e * w .size) (w .size) new)))
-    go true b h = refl
-    go false true h = refl
-    go false false h = absurd (false≢true (h refl))
+    go : (l b : Bool) → (l ≡ false → b ≡ true) → (x : Change) (y o₁ o₂ : List ℕ)
+        → cond l x (cond b (added y) (replaced o₁ y)) ≡ cond l x (cond b (added y) (replaced o₂ y))
+    go true b h x y o₁ o₂ = refl
+    go false true h x y o₁ o₂ = refl
+    go false false h x y o₁ o₂ = absurd (false≢true (h refl))
 
 -- an added block
 fresh-item : (w : Work) (new : List ℕ) (e : ℕ) → w .listed ≡ false → w .fresh ≡ true
-    → _≡_ {A = ℕ × Change} (numberAt w new e, changeAt w new new e) (w .first + e, added (part (e * w .size) (w .size) new))
+    → _≡_ {A = ℕ × Change} (numberAt w new e, severalAt w new e) (w .first + e, added (live (w .version) ++ part (e * w .size) (w .size) new))
 unfolding numberAt changeAt changeOf
 fresh-item w new e l f = rw (l, f)
 
 -- a change that comes alone
-module _ (k c : List ℕ) (w : Work) (old new x : List ℕ) (one : alone w ≡ true) where
+module _ (k c : List ℕ) (w : Work) (om old nm new x : List ℕ) (one : alone w ≡ true) where
   ways : (w .listed ≡ false) × (w .count ≡ 1)
   unfolding alone
   ways = go (w .listed) refl (w .count) refl one
@@ -108,8 +107,8 @@ module _ (k c : List ℕ) (w : Work) (old new x : List ℕ) (one : alone w ≡ t
       go false el n en h = (el, en ∙ eqb-true n 1 h)
 
   pub after-one : (y : List ℕ)
-      → y ≡ changedDigest standard k c (w .rows) (w .positions) (w .first) (changeOf (w .fresh) (take (w .size) old) (take (w .size) new)) x
-      → y ≡ workedDigest standard k c (w .rows) (w .positions) (itemsOf w old new) x
+      → y ≡ changedDigest standard k c (w .rows) (w .positions) (w .first) (changeOf (w .fresh) (om ++ take (w .size) old) (nm ++ take (w .size) new)) x
+      → y ≡ workedDigest standard k c (w .rows) (w .positions) (itemsOf w om old nm new) x
   unfolding itemsOf itemsBelow workedDigest numberAt changeAt
   after-one y ey =
       let none : 0 * w .size ≡ 0 = zero-mul (w .size) in
@@ -121,31 +120,33 @@ module _ (k c : List ℕ) (w : Work) (new : List ℕ) where
   unfolding after itemsBelow workedDigest
   after-none x = refl
 
-  pub after-all : (old x : List ℕ) → (w .listed ≡ false → w .fresh ≡ true)
-      → after k c w new (w .count) x ≡ workedDigest standard k c (w .rows) (w .positions) (itemsOf w old new) x
+  pub after-all : (om old nm x : List ℕ) → (w .listed ≡ false → w .fresh ≡ true) → nm ≡ live (w .version)
+      → after k c w new (w .count) x ≡ workedDigest standard k c (w .rows) (w .positions) (itemsOf w om old nm new) x
   unfolding after itemsOf
-  after-all old x f =
+  after-all om old nm x f en =
       ap (λ (work : List (ℕ × Change)). workedDigest standard k c (w .rows) (w .positions) work x)
-      (items-same (λ e. (numberAt w new e, changeAt w new new e)) (λ e. (numberAt w new e, changeAt w old new e))
-      (λ e. ap (λ (ch : Change). (numberAt w new e, ch)) (old-unread w old new e f)) (w .count))
+      (items-same (λ e. (numberAt w new e, severalAt w new e)) (λ e. (numberAt w new e, changeAt w om old nm new e))
+      (λ e. ap (λ (ch : Change). (numberAt w new e, ch)) (old-unread w om old nm new e f en)) (w .count))
 
   -- the digest that the blocks of a buffer make, all added one after the other
   pub after-grown : (x y : List ℕ) (n : ℕ) → w .listed ≡ false → w .fresh ≡ true → n + 1 ≡ w .first → w .count * w .size ≤ length new
-      → y ≡ workedDigest standard k c (w .rows) (w .positions) (addedFrom (n + 1) (pieces (w .size) (w .count) (take (w .count * w .size) new))) x
+      → y ≡ workedDigest standard k c (w .rows) (w .positions) (addedFrom (n + 1) (alike (live (w .version)) (pieces (w .size) (w .count) (take (w .count * w .size) new)))) x
       → y ≡ after k c w new (w .count) x
   unfolding after
   after-grown x y n l f en inside ey =
       ey
       ∙ ap (λ (work : List (ℕ × Change)). workedDigest standard k c (w .rows) (w .positions) work x)
-      (ap₂ addedFrom en (pieces-taken (w .size) (w .count) new inside) ∙ sym (items-added (w .first) (w .size) (w .count) new)
-      ∙ sym (items-same (λ e. (numberAt w new e, changeAt w new new e)) (λ e. (w .first + e, added (part (e * w .size) (w .size) new))) (λ e. fresh-item w new e l f) (w .count)))
+      (ap₂ (λ (m : ℕ) (xs : List (List ℕ)). addedFrom m (alike (live (w .version)) xs)) en (pieces-taken (w .size) (w .count) new inside)
+      ∙ sym (items-added (live (w .version)) (w .first) (w .size) (w .count) new)
+      ∙ sym (items-same (λ e. (numberAt w new e, severalAt w new e)) (λ e. (w .first + e, added (live (w .version) ++ part (e * w .size) (w .size) new)))
+      (λ e. fresh-item w new e l f) (w .count)))
 
   module _ (e : ℕ) (x : List ℕ) where
     after-more : after k c w new (e + 1) x
-        ≡ changedDigest standard k c (w .rows) (w .positions) (numberAt w new e) (changeAt w new new e) (after k c w new e x)
+        ≡ changedDigest standard k c (w .rows) (w .positions) (numberAt w new e) (severalAt w new e) (after k c w new e x)
     unfolding after itemsBelow workedDigest
     after-more =
-        let item : ℕ → ℕ × Change = λ i. (numberAt w new i, changeAt w new new i) in
+        let item : ℕ → ℕ × Change = λ i. (numberAt w new i, severalAt w new i) in
         ap (λ (m : ℕ). workedDigest standard k c (w .rows) (w .positions) (itemsBelow m item) x) (add-one e)
         ∙ worked-append standard k c (w .rows) (w .positions) (itemsBelow e item) (item e ∷ []) x
 
@@ -153,16 +154,16 @@ module _ (k c : List ℕ) (w : Work) (new : List ℕ) where
       pub item-undrawn : w .positions ≤ seat → y ≡ after k c w new (e + 1) x
       item-undrawn l =
           before
-          ∙ undrawn k c (w .rows) (w .positions) (numberAt w new e) (seat + 1) (changeAt w new new e) (after k c w new e x) place (omega arith)
+          ∙ undrawn k c (w .rows) (w .positions) (numberAt w new e) (seat + 1) (severalAt w new e) (after k c w new e x) place (omega arith)
           ∙ sym after-more
 
       -- what is handed over is hashed at the block's index
       pub item-drawn : (m column index : ℕ) (c′ u : List ℕ) → seat < w .positions → c′ ≡ c → m ≡ numberAt w new e → column ≡ columnOf (w .rows) m
-          → index ≡ indexOf (w .rows) column (seat + 1) → u ≡ mixed standard c′ index (changeAt w new new e) y
+          → index ≡ indexOf (w .rows) column (seat + 1) → u ≡ mixed standard c′ index (severalAt w new e) y
           → u ≡ after k c w new (e + 1) x
       item-drawn m column index c′ u l ec em ej ei eu =
           eu
-          ∙ ap₂ (λ (h v : List ℕ). mixed standard h index (changeAt w new new e) v) ec before
-          ∙ drawn k c (w .rows) (w .positions) (numberAt w new e) (seat + 1) (changeAt w new new e) (after k c w new e x) place index (omega arith)
+          ∙ ap₂ (λ (h v : List ℕ). mixed standard h index (severalAt w new e) v) ec before
+          ∙ drawn k c (w .rows) (w .positions) (numberAt w new e) (seat + 1) (severalAt w new e) (after k c w new e x) place index (omega arith)
           (ei ∙ ap (λ (q : ℕ). indexOf (w .rows) q (seat + 1)) (ej ∙ ap (columnOf (w .rows)) em))
           ∙ sym after-more

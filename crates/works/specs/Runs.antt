@@ -12,13 +12,13 @@ use Rattle.hmac.specs.declared.Key.{Key}
 use Rattle.scheme.specs.Tokens.{rowOf, positionOf, workedDigest}
 use Rattle.standard.specs.Standard.{standard}
 use Rattle.tokens.specs.Keyed.{tokenKey}
-use Rattle.items.specs.Items.{numberAt, changeAt, itemsBelow}
+use Rattle.items.specs.Items.{numberAt, severalAt, itemsBelow}
 use Rattle.items.specs.declared.Work.{Work}
 use Rattle.works.specs.declared.Run.{Run}
 
 -- a digest x after the first n of several block changes
 unfoldable pub after : List ℕ → List ℕ → Work → List ℕ → ℕ → List ℕ → List ℕ
-after k c w new n x = workedDigest standard k c (w .rows) (w .positions) (itemsBelow n (λ e. (numberAt w new e, changeAt w new new e))) x
+after k c w new n x = workedDigest standard k c (w .rows) (w .positions) (itemsBelow n (λ e. (numberAt w new e, severalAt w new e))) x
 
 pub record Room (walks starts ends ps : List ℕ) : Type 0 where
   pub walks-long : length walks ≡ 8192

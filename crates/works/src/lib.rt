@@ -67,7 +67,7 @@ fn add_item(
     at: &mut [usize; 16],
 ) -> Run
     requires { ⌜ Several work (now new) × (e < work .count) × (seat < work .rows) ⌝ }
-    requires { ⌜ Made z (i .0) run × Fits f (work .size) (now pad) (now p) × Sound (run .sum) f (now new) (now at) ⌝ }
+    requires { ⌜ Made z (i .0) run × Fits f (work .version) (work .size) (now pad) (now p) × Sound (run .sum) f (now new) (now at) ⌝ }
     ensures { λ r. ⌜ Made z (i .0) r × Sound (r .sum) f (now (new .entry)) (now (at .exit)) ⌝ }
     ensures { λ r. ⌜ ((k x : List ℕ) → seat + 1 ≡ T.positionOf standard k (work .rows) (T.rowOf (work .rows) (numberAt work (now (new .entry)) e)) → held (run .sum) f (now (new .entry)) (now (at .entry)) (now (p .entry)) ≡ after k (tokenKey z (i .0)) work (now (new .entry)) e x → held (r .sum) f (now (new .entry)) (now (at .exit)) (now (p .exit)) ≡ after k (tokenKey z (i .0)) work (now (new .entry)) (e + 1) x) ⌝ }
 {
@@ -99,7 +99,7 @@ fn add_items(
     at: &mut [usize; 16],
 ) -> Run
     requires { ⌜ Several work (now new) × (from + n ≤ work .count) × (n ≤ length (now ends)) × ((e : ℕ) → e < n → getD (now ends) e 0 < work .rows) ⌝ }
-    requires { ⌜ Made z (i .0) run × Fits f (work .size) (now pad) (now p) × Sound (run .sum) f (now new) (now at) ⌝ }
+    requires { ⌜ Made z (i .0) run × Fits f (work .version) (work .size) (now pad) (now p) × Sound (run .sum) f (now new) (now at) ⌝ }
     ensures { λ r. ⌜ Made z (i .0) r × Sound (r .sum) f (now (new .entry)) (now (at .exit)) ⌝ }
     ensures { λ r. ⌜ ((k x : List ℕ) → Placed k work (now (new .entry)) from n (now (ends .entry)) → held (run .sum) f (now (new .entry)) (now (at .entry)) (now (p .entry)) ≡ after k (tokenKey z (i .0)) work (now (new .entry)) from x → held (r .sum) f (now (new .entry)) (now (at .exit)) (now (p .exit)) ≡ after k (tokenKey z (i .0)) work (now (new .entry)) (from + n) x) ⌝ }
 {
@@ -143,7 +143,7 @@ fn add_some(
     at: &mut [usize; 16],
 ) -> Run
     requires { ⌜ Several work (now new) × (from + n ≤ work .count) × (n ≤ 256) × Tabled words (half (work .rows)) (now table) × (length (now starts) ≡ 256) × (length (now ends) ≡ 256) ⌝ }
-    requires { ⌜ Made z (i .0) run × Fits f (work .size) (now pad) (now p) × Sound (run .sum) f (now new) (now at) ⌝ }
+    requires { ⌜ Made z (i .0) run × Fits f (work .version) (work .size) (now pad) (now p) × Sound (run .sum) f (now new) (now at) ⌝ }
     ensures { λ r. ⌜ Made z (i .0) r × Sound (r .sum) f (now (new .entry)) (now (at .exit)) ⌝ }
     ensures { λ r. ⌜ ((k x : List ℕ) → words ≡ keyWords k → held (run .sum) f (now (new .entry)) (now (at .entry)) (now (p .entry)) ≡ after k (tokenKey z (i .0)) work (now (new .entry)) from x → held (r .sum) f (now (new .entry)) (now (at .exit)) (now (p .exit)) ≡ after k (tokenKey z (i .0)) work (now (new .entry)) (from + n) x) ⌝ }
 {
@@ -179,7 +179,7 @@ fn several_in(
     ends: &mut [u64],
     p: &mut [u8],
 ) -> [u8; 32]
-    requires { ⌜ Several work (now new) × Tabled words (half (work .rows)) (now table) × Fits f (work .size) (now pad) (now p) × (length (now starts) ≡ 256) × (length (now ends) ≡ 256) ⌝ }
+    requires { ⌜ Several work (now new) × Tabled words (half (work .rows)) (now table) × Fits f (work .version) (work .size) (now pad) (now p) × (length (now starts) ≡ 256) × (length (now ends) ≡ 256) ⌝ }
     ensures { λ r. ⌜ ((k : List ℕ) → words ≡ keyWords k → r ≡ after k (tokenKey z (i .0)) work (now (new .entry)) (work .count) x) ⌝ }
 {
     let none = [0u8; 32];
@@ -236,10 +236,11 @@ fn by_blocks(
     let k = tokens::token_key(w, i);
     let words = chacha20::key_words(&k);
     let entries = permutation::tabulated(words, work.rows, work.count, walks);
-    let padding = sha256::pad(36 + work.size);
+    let h = items::head_bytes(work.version);
+    let padding = sha256::pad(h as u64 + work.size);
     let bytes = padding.bytes;
     let len = padding.len;
-    let f = sums::form_of(36, work.size as usize, len);
+    let f = sums::form_of(h, work.size as usize, len);
     several_in(
         words,
         &walks[..entries],
@@ -256,7 +257,7 @@ fn by_blocks(
     )
 }
 
-// A token's digest x after blocks are added, position by position: its newer columns are hashed, as set-up hashes all.
+// A token's digest x after blocks are added, position by position: its newer columns are hashed, as set-up hashes all, and all blocks are live.
 fn by_positions(
     w: hmac::Key,
     z: hmac::Key,
@@ -264,20 +265,25 @@ fn by_positions(
     work: items::Work,
     new: &[u8],
     x: [u8; 32],
+    walks: &mut [u16],
+    p: &mut [u8],
 ) -> [u8; 32]
-    requires { ⌜ Several work (now new) × (work .listed ≡ false) ⌝ }
+    requires { ⌜ Several work (now new) × (work .listed ≡ false) × (length (now walks) ≡ 8192) × (length (now p) ≡ 3072) ⌝ }
     ensures { λ r. ⌜ r ≡ after (tokenKey w (i .0)) (tokenKey z (i .0)) work (now (new .entry)) (work .count) x ⌝ }
 {
     let k = tokens::token_key(w, i);
     let c = tokens::token_key(z, i);
+    let live = [0u8; 1];
     let whole = (work.count * work.size) as usize;
     let b = digests::Span {
         rows: work.rows,
         size: work.size,
         before: work.first - 1,
         count: work.count,
+        mark: marks::marks_in(work.version),
+        step: 0,
     };
-    digests::grown(k, c, b, work.positions, &new[..whole], x)
+    digests::grown(k, c, b, work.positions, &new[..whole], &live, x, walks, p)
 }
 
 // Whether so many blocks are added that position by position takes no more walks.
@@ -307,19 +313,21 @@ fn several(
     ensures { λ r. ⌜ r ≡ after (tokenKey w (i .0)) (tokenKey z (i .0)) work (now (new .entry)) (work .count) x ⌝ }
 {
     if dense(work) {
-        return by_positions(w, z, i, work, new, x);
+        return by_positions(w, z, i, work, new, x, walks, p);
     }
     by_blocks(w, z, i, work, new, x, walks, starts, ends, p)
 }
 
-// A token's digest x after all block changes, under the keys W and Z prepared. The room to work in, a table, where walks begin and end, and what waits
-// to be hashed, is read and written only where there are several.
+// A token's digest x after all block changes, under the keys W and Z prepared. `old_mark` and `new_mark` are the marks of a change that comes alone.
+// The room to work in, a table, where walks begin and end, and what waits to be hashed, is read and written only where there are several.
 pub fn worked(
     w: hmac::Key,
     z: hmac::Key,
     i: counts::Token,
     work: items::Work,
+    old_mark: &[u8],
     old: &[u8],
+    new_mark: &[u8],
     new: &[u8],
     x: [u8; 32],
     walks: &mut [u16],
@@ -327,8 +335,8 @@ pub fn worked(
     ends: &mut [u64],
     p: &mut [u8],
 ) -> [u8; 32]
-    requires { ⌜ Lent work (now old) (now new) × (alone work ≡ false → Room (now walks) (now starts) (now ends) (now p)) ⌝ }
-    ensures { λ r. ⌜ r ≡ T.workedDigest standard (tokenKey w (i .0)) (tokenKey z (i .0)) (work .rows) (work .positions) (itemsOf work (now (old .entry)) (now (new .entry))) x ⌝ }
+    requires { ⌜ Lent work (now «old_mark») (now old) (now «new_mark») (now new) × (alone work ≡ false → Room (now walks) (now starts) (now ends) (now p)) ⌝ }
+    ensures { λ r. ⌜ r ≡ T.workedDigest standard (tokenKey w (i .0)) (tokenKey z (i .0)) (work .rows) (work .positions) (itemsOf work (now («old_mark» .entry)) (now (old .entry)) (now («new_mark» .entry)) (now (new .entry))) x ⌝ }
 {
     let one = items::alone(work);
     if !one {
@@ -343,7 +351,9 @@ pub fn worked(
         work.positions,
         m,
         work.fresh,
+        old_mark,
         &old[..size],
+        new_mark,
         &new[..size],
         i,
         x,

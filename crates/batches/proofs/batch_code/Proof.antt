@@ -14,11 +14,11 @@ use Rattle.batches.proofs.batch_code.Tie as tie
 
 -- the length is a whole number of items, and how many
 even : (c : tie.After-item-bytes) → length (c .before .before .args .items .now) % c .item-bytes .result ≡ 0
-    → length (c .before .before .args .items .now) % itemSize (c .before .before .args .c .«block_bytes») ≡ 0
+    → length (c .before .before .args .items .now) % itemSize (c .before .before .args .c .version) (c .before .before .args .c .«block_bytes») ≡ 0
 even c h = sym (ap (λ (n : ℕ). length (c .before .before .args .items .now) % n) (c .item-bytes .ensures .0)) ∙ h
 
 counted : (c : tie.After-item-bytes) → length (c .before .before .args .items .now) / c .item-bytes .result
-    ≡ length (c .before .before .args .items .now) / itemSize (c .before .before .args .c .«block_bytes»)
+    ≡ length (c .before .before .args .items .now) / itemSize (c .before .before .args .c .version) (c .before .before .args .c .«block_bytes»)
 counted c = ap (λ (n : ℕ). length (c .before .before .args .items .now) / n) (c .item-bytes .ensures .0)
 
 item-bytes-requires : tie.Need-item-bytes-requires
@@ -41,20 +41,20 @@ returns-2 : tie.Need-returns-2
 returns-2 c =
     let b = c .before .before in
     let a = b .before .before .args in
-    batch-count (a .c) (a .items .now) (eq-eqb _ 0 (even b (c .before .if1 .left))) (within-low 64 (length (a .items .now) / itemSize (a .c .«block_bytes»)) (omega (arith, counted b, c .if2 .taken)))
+    batch-count (a .c) (a .items .now) (eq-eqb _ 0 (even b (c .before .if1 .left))) (within-low 64 (length (a .items .now) / itemSize (a .c .version) (a .c .«block_bytes»)) (omega (arith, counted b, c .if2 .taken)))
 
 returns-3 : tie.Need-returns-3
 returns-3 c =
     let b = c .before .before .before in
     let a = b .before .before .args in
-    batch-count (a .c) (a .items .now) (eq-eqb _ 0 (even b (c .before .before .if1 .left))) (within-high 64 (length (a .items .now) / itemSize (a .c .«block_bytes»)) (omega (arith, counted b, c .if3 .taken)))
+    batch-count (a .c) (a .items .now) (eq-eqb _ 0 (even b (c .before .before .if1 .left))) (within-high 64 (length (a .items .now) / itemSize (a .c .version) (a .c .«block_bytes»)) (omega (arith, counted b, c .if3 .taken)))
 
 items-code-requires : tie.Need-items-code-requires
 items-code-requires c κs =
     let b = c .before .before .before in
     let a = b .before .before .args in
     let long = length (a .items .now) in
-    let each = itemSize (a .c .«block_bytes») in (
+    let each = itemSize (a .c .version) (a .c .«block_bytes») in (
       b .before .before .pre,
       omega arith,
       omega arith,

@@ -12,12 +12,12 @@ item-at-requires : tie.Need-item-at-requires
 item-at-requires c κs = search needs
 
 shared-slice-read-result : tie.Need-shared-slice-read-result
-shared-slice-read-result c = omega (arith, item-long (c .before .before .before .args .size))
+shared-slice-read-result c = omega (arith, item-long (c .before .before .before .args .version) (c .before .before .before .args .size))
 
 returns : tie.Need-returns
 returns c =
     let a = c .before .before .before .args in
-    ap (λ (x : ℕ). eqb x 1) (kind-read (a .size) (a .e) _ (a .items .now) (c .before .item-at .ensures))
+    ap (λ (x : ℕ). eqb x 1) (kind-read (a .version) (a .size) (a .e) _ (a .items .now) (c .before .item-at .ensures))
 
 pub is-update-spec : {M : Type 1} → statement M
 is-update-spec = tie.close (tie.spec item-at-requires shared-slice-read-result returns)

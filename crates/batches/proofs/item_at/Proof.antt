@@ -13,7 +13,7 @@ item-bytes-requires c κs = search needs
 mul-result : tie.Need-mul-result
 mul-result c =
     let a = c .before .args in
-    omega (arith, item-few (a .e) (a .size) _ (c .item-bytes .ensures .0) (c .before .pre .1) (c .before .pre .0))
+    omega (arith, item-few (a .e) (a .version) (a .size) _ (c .item-bytes .ensures .0) (c .before .pre .1) (c .before .pre .0))
 
 returns : tie.Need-returns
 returns c = ap (λ (r : ℕ). c .before .args .e * r) (c .item-bytes .ensures .0)

@@ -12,15 +12,15 @@ item-at-requires : tie.Need-item-at-requires
 item-at-requires c κs = search needs
 
 shared-slice-read-result : tie.Need-shared-slice-read-result
-shared-slice-read-result c = omega (arith, item-long (c .before .before .before .args .size))
+shared-slice-read-result c = omega (arith, item-long (c .before .before .before .args .version) (c .before .before .before .args .size))
 
 shared-slice-read-result-2 : tie.Need-shared-slice-read-result-2
-shared-slice-read-result-2 c = omega (arith, item-long (c .before .before .before .before .args .size))
+shared-slice-read-result-2 c = omega (arith, item-long (c .before .before .before .before .args .version) (c .before .before .before .before .args .size))
 
 returns : tie.Need-returns
 returns c =
     let a = c .before .before .before .before .args in
-    ap (within 1 2) (kind-read (a .size) (a .e) _ (a .items .now) (c .before .before .item-at .ensures))
+    ap (within 1 2) (kind-read (a .version) (a .size) (a .e) _ (a .items .now) (c .before .before .item-at .ensures))
 
 pub kind-fits-spec : {M : Type 1} → statement M
 kind-fits-spec =

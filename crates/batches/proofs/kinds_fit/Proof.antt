@@ -11,21 +11,21 @@ use Rattle.batches.proofs.kinds_fit.Statement.{statement}
 use Rattle.batches.proofs.kinds_fit.Tie as tie
 
 abbrev Inv-loop : tie.InvT-loop
-Inv-loop size count items e₀ e = (e ≤ count) × (kindsFit (itemsFrom size count items) ≡ kindsFit (left size count e items))
+Inv-loop version size count items e₀ e = (e ≤ count) × (kindsFit (itemsFrom version size count items) ≡ kindsFit (left version size count e items))
 
 abbrev μ-loop : tie.MeasureT-loop
-μ-loop size count items e₀ e = count - e
+μ-loop version size count items e₀ e = count - e
 
 loop-holds : tie.Need-loop-holds Inv-loop μ-loop
 loop-holds c =
     let a = c .before .args in
-    (omega arith, all-begun (a .size) (a .count) (a .items .now) kindFits kindsFit kinds-none kinds-more)
+    (omega arith, all-begun (a .version) (a .size) (a .count) (a .items .now) kindFits kindsFit kinds-none kinds-more)
 
 kind-fits-requires : tie.Need-kind-fits-requires Inv-loop μ-loop
 kind-fits-requires c κs =
     let s = c .before .before .before in
     let a = s .args in
-    (s .pre .0, omega arith, item-room (c .before .loop .e) (a .count) (a .size) _ (omega arith) (s .pre .2))
+    (s .pre .0, omega arith, item-room (c .before .loop .e) (a .count) (a .version) (a .size) _ (omega arith) (s .pre .2))
 
 returns : tie.Need-returns Inv-loop μ-loop
 returns c =
@@ -33,7 +33,7 @@ returns c =
     let a = c .before .before .before .before .before .args in
     sym
     (l .inv .1
-    ∙ all-failed (a .size) (a .count) (a .items .now) kindFits kindsFit kinds-none kinds-more (l .e) (c .before .before .loop-test .taken) (sym (c .before .kind-fits .ensures) ∙ not-true _ (c .if1 .taken)))
+    ∙ all-failed (a .version) (a .size) (a .count) (a .items .now) kindFits kindsFit kinds-none kinds-more (l .e) (c .before .before .loop-test .taken) (sym (c .before .kind-fits .ensures) ∙ not-true _ (c .if1 .taken)))
 
 add-e : tie.Need-add-e Inv-loop μ-loop
 add-e c = search needs
@@ -47,14 +47,14 @@ loop-again c =
     let a = c .before .before .before .before .before .args in (
       omega arith,
       l .inv .1
-          ∙ all-next (a .size) (a .count) (a .items .now) kindFits kindsFit kinds-none kinds-more (l .e) (c .before .before .loop-test .taken) (sym (c .before .kind-fits .ensures) ∙ not-false _ (c .if1 .left)),
+          ∙ all-next (a .version) (a .size) (a .count) (a .items .now) kindFits kindsFit kinds-none kinds-more (l .e) (c .before .before .loop-test .taken) (sym (c .before .kind-fits .ensures) ∙ not-false _ (c .if1 .left)),
     )
 
 returns-2 : tie.Need-returns-2 Inv-loop μ-loop
 returns-2 c =
     let l = c .before .loop in
     let a = c .before .before .before .args in
-    sym (l .inv .1 ∙ all-done (a .size) (a .count) (a .items .now) kindFits kindsFit kinds-none kinds-more (l .e) (omega arith))
+    sym (l .inv .1 ∙ all-done (a .version) (a .size) (a .count) (a .items .now) kindFits kindsFit kinds-none kinds-more (l .e) (omega arith))
 
 pub kinds-fit-spec : {M : Type 1} → statement M
 kinds-fit-spec =

@@ -13,15 +13,15 @@ add-be4 : tie.Need-add-be4
 add-be4 c = search needs
 
 be4-requires : tie.Need-be4-requires
-be4-requires c κs = omega (arith, item-long (c .before .before .args .size))
+be4-requires c κs = omega (arith, item-long (c .before .before .args .version) (c .before .before .args .size))
 
-cast-t7 : tie.Need-cast-t7
-cast-t7 c = search needs
+cast-t8 : tie.Need-cast-t8
+cast-t8 c = search needs
 
 returns : tie.Need-returns
 returns c =
     let a = c .before .before .before .args in
-    c .be4 .ensures ∙ number-read (a .size) (a .e) _ (a .items .now) (c .before .item-at .ensures)
+    c .be4 .ensures ∙ number-read (a .version) (a .size) (a .e) _ (a .items .now) (c .before .item-at .ensures)
 
 pub number-of-spec : {M : Type 1} → statement M
-number-of-spec = tie.close (tie.spec item-at-requires add-be4 be4-requires cast-t7 returns)
+number-of-spec = tie.close (tie.spec item-at-requires add-be4 be4-requires cast-t8 returns)

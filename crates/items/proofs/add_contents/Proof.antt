@@ -19,13 +19,13 @@ returns c = search needs
 
 mul-a : tie.Need-mul-a
 mul-a c =
-    let s = c .before .before .before .before in
+    let s = c .before .before .before .before .before in
     let a = s .args in
     omega (arith, piece-few (a .e) (a .work .count) (a .work .size) (s .pre .0 .1) (s .pre .0 .0 .few) (s .pre .0 .0 .small))
 
 add-block-requires : tie.Need-add-block-requires
 add-block-requires c κs =
-    let l = c .before .before in
+    let l = c .before .before .before in
     let s = l .before .before .before .before in
     let a = s .args in
     (s .pre .1 .0, s .pre .1 .1, omega (arith, inside (a .e) (a .work .count) (a .work .size) (s .pre .0 .1), s .pre .0 .0 .added (l .if1 .left) .whole))
@@ -36,7 +36,7 @@ same-length-2 c = search needs
 returns-2 : tie.Need-returns-2
 returns-2 c =
     let added = c .before .before in
-    let l = added .before .before .before in
+    let l = added .before .before .before .before in
     let s = l .before .before .before .before in
     let a = s .args in (
       added .add-block .ensures .0,

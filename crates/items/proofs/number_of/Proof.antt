@@ -12,7 +12,7 @@ number-of-requires c κs =
     let s = c .before .before in
     let a = s .args in
     let l = s .pre .0 .listed (c .if1 .taken) in
-    (s .pre .0 .small, omega (arith, l .few, s .pre .1), item-room (a .e) (a .work .count) (a .work .size) _ (s .pre .1) (l .whole))
+    (s .pre .0 .small, omega (arith, l .few, s .pre .1), item-room (a .e) (a .work .count) (a .work .version) (a .work .size) _ (s .pre .1) (l .whole))
 
 returns : tie.Need-returns
 returns c =

@@ -23,7 +23,7 @@ slice-aggregate-reseal-in-4 c = search needs
 reseal-in-requires : tie.Need-reseal-in-requires
 reseal-in-requires c κs =
     let one = c .before .before .before .before .before in
-    let s = one .before .before .before .before .before in
+    let s = one .before .before .before .before .before .before .before in
     (s .pre, λ several. absurd (false≢true (sym several ∙ sym (one .before .alone .ensures) ∙ one .if1 .taken)))
 
 same-length : tie.Need-same-length
@@ -46,7 +46,7 @@ slice-aggregate-reseal-in-8 c = search needs
 
 reseal-in-requires-2 : tie.Need-reseal-in-requires-2
 reseal-in-requires-2 c κs =
-    let s = c .before .before .before .before .before .before .before .before .before .before in
+    let s = c .before .before .before .before .before .before .before .before .before .before .before .before in
     (s .pre, λ _. record { walks-long = search needs; starts-long = search needs; ends-long = search needs; whole = search needs })
 
 same-length-2 : tie.Need-same-length-2

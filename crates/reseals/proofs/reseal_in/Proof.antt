@@ -16,34 +16,34 @@ use Rattle.reseals.proofs.reseal_in.Statement.{statement}
 use Rattle.reseals.proofs.reseal_in.Tie as tie
 
 abbrev Inv-loop : tie.InvT-loop
-Inv-loop keys c work old new table₀ walks₀ starts₀ ends₀ p₀ i₀ table walks starts ends p i =
+Inv-loop keys c work om old nm new table₀ walks₀ starts₀ ends₀ p₀ i₀ table walks starts ends p i =
     (1 ≤ i)
     × (i ≤ c .tokens + 1)
     × (length table ≡ c .tokens * 63)
-    × (firstBad standard (keys .k) (c .counter) table (c .tokens + 1 - i) i ≡ 0)
+    × (firstBad standard (keys .k) (c .version) (c .counter) table (c .tokens + 1 - i) i ≡ 0)
     × ((master : List ℕ) → Keyed master (c .id) keys
-    → reseal standard master (cardOf c) (itemsOf work old new) (c .tokens + 1 - i) i table
-    ≡ reseal standard master (cardOf c) (itemsOf work old new) (c .tokens + 1 - c .next) (c .next) table₀)
+    → reseal standard master (cardOf c) (itemsOf work om old nm new) (c .tokens + 1 - i) i table
+    ≡ reseal standard master (cardOf c) (itemsOf work om old nm new) (c .tokens + 1 - c .next) (c .next) table₀)
     × (length walks ≡ length walks₀)
     × (length starts ≡ length starts₀)
     × (length ends ≡ length ends₀)
     × (length p ≡ length p₀)
 
 abbrev μ-loop : tie.MeasureT-loop
-μ-loop keys c work old new table₀ walks₀ starts₀ ends₀ p₀ i₀ table walks starts ends p i = c .tokens + 1 - i
+μ-loop keys c work om old nm new table₀ walks₀ starts₀ ends₀ p₀ i₀ table walks starts ends p i = c .tokens + 1 - i
 
 loop-holds : tie.Need-loop-holds Inv-loop μ-loop
 loop-holds c =
-    let r = c .before .before .before .before .before .before .before .pre .0 .0 in
+    let r = c .before .before .before .before .before .before .before .before .before .pre .0 .0 in
     (r .next1, r .nextmost, r .whole, r .opens, (λ master k. refl), refl, refl, refl, refl)
 
 reseal-one-requires : tie.Need-reseal-one-requires Inv-loop μ-loop
 reseal-one-requires c κs =
-    let s = c .before .before .before .before .before .before .before .before .before .before .before .before .before .before .before in
+    let s = c .before .before .before .before .before .before .before .before .before .before .before .before .before .before .before .before .before in
     let l = c .before .before .before .before .before .before .before .loop in
     let a = s .args in
     let h : l .i ≤ a .c .tokens = c .before .before .before .before .before .if1 .taken in (
-      (s .pre .0 .0 .room, s .pre .0 .1, s .pre .0 .2),
+      (s .pre .0 .0 .small-version, s .pre .0 .0 .room, s .pre .0 .1, s .pre .0 .2),
       (
         (λ several.
             let room = s .pre .1 several in
@@ -55,7 +55,7 @@ reseal-one-requires c κs =
             }),
         (
           (l .inv .0, omega (arith, h, s .pre .0 .0 .few-tokens), omega (arith, h, l .inv .2)),
-          bad-opens (a .keys .k) (a .c .counter) (a .c .tokens) (l .i) (l .table) (l .inv .0) h (l .inv .3),
+          bad-opens (a .keys .k) (a .c .version) (a .c .counter) (a .c .tokens) (l .i) (l .table) (l .inv .0) h (l .inv .3),
         ),
       ),
     )
@@ -63,8 +63,8 @@ reseal-one-requires c κs =
 add-i : tie.Need-add-i Inv-loop μ-loop
 add-i c =
     let back16 = c .before .before .before .before .before .before .before .before .before .before .before .before .before .before .before .before in
-    let back26 = back16 .before .before .before .before .before .before .before .before .before .before in
-    omega (arith, back16 .if1 .taken, back26 .pre .0 .0 .few-tokens)
+    let back28 = back16 .before .before .before .before .before .before .before .before .before .before .before .before in
+    omega (arith, back16 .if1 .taken, back28 .pre .0 .0 .few-tokens)
 
 loop-less : tie.Need-loop-less Inv-loop μ-loop
 loop-less c = omega (arith, c .before .before .before .before .before .before .before .before .before .before .before .before .before .before .before .before .if1 .taken)
@@ -75,11 +75,11 @@ loop-again c =
     let back10 = c .before .before .before .before .before .before .before .before .before .before in
     let back16 = back10 .before .before .before .before .before .before in
     let back18 = back16 .before .before in
-    let back26 = back18 .before .before .before .before .before .before .before .before in
+    let back28 = back18 .before .before .before .before .before .before .before .before .before .before in
     let one = back10 .reseal-one in
     let l = back18 .loop in
-    let a = back26 .args in
-    let items = itemsOf (a .work) (a .old .now) (a .new .now) in
+    let a = back28 .args in
+    let items = itemsOf (a .work) (a .old-mark .now) (a .old .now) (a .new-mark .now) (a .new .now) in
     let h : l .i ≤ a .c .tokens = back16 .if1 .taken in
     let both = turn (a .keys) (cardOf (a .c)) items (a .c .tokens) (l .i) (l .table) _ (l .inv .0) h (l .inv .2) (l .inv .3) (one .ensures .0) (one .ensures .1) in (
       omega arith,
@@ -94,7 +94,7 @@ loop-again c =
     )
 
 same-length : tie.Need-same-length Inv-loop μ-loop
-same-length c = c .before .before .loop .inv .2 ∙ sym (c .before .before .before .before .before .before .before .before .before .before .pre .0 .0 .whole)
+same-length c = c .before .before .loop .inv .2 ∙ sym (c .before .before .before .before .before .before .before .before .before .before .before .before .pre .0 .0 .whole)
 
 same-length-2 : tie.Need-same-length-2 Inv-loop μ-loop
 same-length-2 c = c .before .before .loop .inv .5
@@ -111,8 +111,8 @@ same-length-5 c = c .before .before .loop .inv .8
 returns : tie.Need-returns Inv-loop μ-loop
 returns c = λ master k.
     let l = c .before .before .loop in
-    let a = c .before .before .before .before .before .before .before .before .before .before .args in
-    let items = itemsOf (a .work) (a .old .now) (a .new .now) in
+    let a = c .before .before .before .before .before .before .before .before .before .before .before .before .args in
+    let items = itemsOf (a .work) (a .old-mark .now) (a .old .now) (a .new-mark .now) (a .new .now) in
     sym (reseal-end standard master (cardOf (a .c)) items (a .c .tokens) (l .i) (l .table) (omega (arith, c .if1 .left))) ∙ l .inv .4 master k
 
 pub reseal-in-spec : {M : Type 1} → statement M

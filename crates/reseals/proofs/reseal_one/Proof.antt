@@ -17,20 +17,21 @@ token-in-requires c κs = search needs
 
 worked-requires : tie.Need-worked-requires
 worked-requires c κs =
-    let s = c .before .before .before .before .before .before .before .before .before .before .before .before .before .before .before .before in
-    (s .pre .0 .2, s .pre .1 .0)
+    let s = c .before .before .before .before .before .before .before .before .before .before .before .before .before .before .before .before .before .before in
+    (s .pre .0 .3, s .pre .1 .0)
 
 add-seal-token : tie.Need-add-seal-token
 add-seal-token c =
-    let back10 = c .before .before .before .before .before .before .before .before .before .before in
-    let back26 = back10 .before .before .before .before .before .before .before .before .before .before .before .before .before .before .before .before in
-    omega (arith, back26 .pre .0 .0)
+    let back14 = c .before .before .before .before .before .before .before .before .before .before .before .before .before .before in
+    let s = back14 .before .before .before .before .before .before .before .before .before .before .before .before .before .before in
+    omega (arith, s .pre .0 .1)
 
 seal-token-requires : tie.Need-seal-token-requires
 seal-token-requires c κs =
-    let back10 = c .before .before .before .before .before .before .before .before .before .before in
-    let back27 = back10 .before .before .before .before .before .before .before .before .before .before .before .before .before .before .before .before .before in
-    back27 .pre .1 .1 .0
+    let back15 = c .before .before .before .before .before .before .before .before .before .before .before .before .before .before .before in
+    let s = back15 .before .before .before .before .before .before .before .before .before .before .before .before .before .before in
+    let i = s .pre .1 .1 .0 in
+    (s .pre .0 .0, i .0, i .1, i .2)
 
 same-length : tie.Need-same-length
 same-length c = search needs
@@ -52,10 +53,10 @@ unfolding cardOf
 returns c =
     let back13 = c .before .before .before .before .before .before .before .before .before .before .before .before .before in
     let back18 = back13 .before .before .before .before .before in
-    let back30 = back18 .before .before .before .before .before .before .before .before .before .before .before .before in
-    let a = back30 .args in
-    let shaped = back30 .pre .0 .1 in
-    let items = itemsOf (a .work) (a .old .now) (a .new .now) in
+    let back32 = back18 .before .before .before .before .before .before .before .before .before .before .before .before .before .before in
+    let a = back32 .args in
+    let shaped = back32 .pre .0 .2 in
+    let items = itemsOf (a .work) (a .old-mark .now) (a .old .now) (a .new-mark .now) (a .new .now) in
     let x = back18 .token-in in
     let y = back13 .worked in
     one-record (a .keys) (cardOf (a .c)) items (a .i .0) (a .table .now) _ (x .result) (y .result)

@@ -1,4 +1,4 @@
--- Key and index are written one behind the other, by head-whole.
+-- Key and index are written before the mark, by head-whole.
 use borrow.Author.Needs.{needs}
 use Rattle.tokens.proofs.KeyLaws.{head-whole}
 use Rattle.tokens.proofs.head_of.Statement.{statement}
@@ -23,7 +23,7 @@ returns : tie.Need-returns
 returns c =
     let copied = c .before .before .before .before in
     let s = copied .before .before .before in
-    head-whole (s .args .t1) _ _ (s .args .index) (search needs) (copied .copy .ensures) (c .before .put-be4 .ensures)
+    head-whole (s .args .t1) _ _ (s .args .index) (s .args .mark) (search needs) (copied .copy .ensures) (c .before .put-be4 .ensures)
 
 pub head-of-spec : {M : Type 1} → statement M
 head-of-spec =

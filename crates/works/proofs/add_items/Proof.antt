@@ -15,7 +15,7 @@ abbrev Inv-loop : tie.InvT-loop
 Inv-loop z i work from n ends f new pad p₀ at₀ going₀ e₀ p at going e =
     (e ≤ n)
     × Made z (i .0) going
-    × Fits f (work .size) pad p
+    × Fits f (work .version) (work .size) pad p
     × Sound (going .sum) f new at
     × ((k x : List ℕ) → Placed k work new from e ends → held (going₀ .sum) f new at₀ p₀ ≡ after k (tokenKey z (i .0)) work new from x
     → held (going .sum) f new at p ≡ after k (tokenKey z (i .0)) work new (from + e) x)

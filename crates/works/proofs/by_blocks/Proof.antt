@@ -1,11 +1,15 @@
--- The table that stands is empty or whole, the words are those of the draw key, and the padding is lent as far as it goes.
+-- The table that stands is empty or whole, the words are those of the draw key, and the padding, of what is hashed in the version, is lent as far as it
+-- goes.
 use borrow.Author.Needs.{needs}
 use native.Mathlib.Omega.{arith}
-use mathlib.Core.Path.{_≡_, sym, ap, _∙_}
+use Prim.Native.Nat.{ℕ, _+_}
+use mathlib.Core.Path.{_≡_, sym, ap, subst, _∙_}
 use lib.ListN.{length, take}
 use lib.Seq.{length-take-le}
+use Rattle.sha256.specs.Sha256.{padding}
 use Rattle.chacha20.specs.ChaCha20.{keyWords}
 use Rattle.tokens.specs.Keyed.{tokenKey}
+use Rattle.sums.specs.Waiting.{Cut}
 use Rattle.works.proofs.by_blocks.Statement.{statement}
 use Rattle.works.proofs.by_blocks.Tie as tie
 
@@ -29,30 +33,32 @@ tabulated-requires c κs =
     let s = c .before .before .before .before .before .before .before .before .before in
     (s .pre .0 .rowed, s .pre .0 .few-rows, s .pre .1 .walks-long)
 
+head-bytes-requires : tie.Need-head-bytes-requires
+head-bytes-requires c κs = search needs
+
 add-pad : tie.Need-add-pad
 add-pad c =
-    let s = c .before .before .before .before .before .before .before .before .before .before .before .before .before in
-    omega (arith, s .pre .0 .small)
+    let s = c .before .before .before .before .before .before .before .before .before .before .before .before .before .before in
+    omega (arith, c .before .head-bytes .ensures .1, s .pre .0 .small)
 
 pad-requires : tie.Need-pad-requires
 pad-requires c κs =
-    let s = c .before .before .before .before .before .before .before .before .before .before .before .before .before in
-    omega (arith, s .pre .0 .small)
+    let s = c .before .before .before .before .before .before .before .before .before .before .before .before .before .before in
+    omega (arith, c .before .head-bytes .ensures .1, s .pre .0 .small)
 
 form-of-requires : tie.Need-form-of-requires
 form-of-requires c κs =
     let padded = c .before in
-    let s = padded .before .before .before .before .before .before .before .before .before .before .before .before .before .before in
-    (omega arith, s .pre .0 .small, sym (pad-long padded) ∙ ap length (padded .pad .ensures .1))
+    let measured = padded .before .before in
+    let s = measured .before .before .before .before .before .before .before .before .before .before .before .before .before in
+    (omega (arith, measured .head-bytes .ensures .1), s .pre .0 .small, sym (pad-long padded) ∙ ap length (padded .pad .ensures .1))
 
 slice-reshare-prefix-several-in : tie.Need-slice-reshare-prefix-several-in
-slice-reshare-prefix-several-in c =
-    let t = c .before .before .before .before .before .before .tabulated .ensures in
-    omega (arith, t .0, t .1)
+slice-reshare-prefix-several-in c = search needs
 
 slice-aggregate-several-in : tie.Need-slice-aggregate-several-in
 slice-aggregate-several-in c =
-    let t = c .before .before .before .before .before .before .before .tabulated .ensures in
+    let t = c .before .before .before .before .before .before .before .before .tabulated .ensures in
     sym (length-take-le _ _ (omega (arith, t .0, t .1)))
 
 array-share-prefix-bytes : tie.Need-array-share-prefix-bytes
@@ -67,11 +73,18 @@ several-in-requires : tie.Need-several-in-requires
 several-in-requires c κs =
     let formed = c .before .before .before .before .before in
     let padded = formed .before .before in
-    let tabled = padded .before .before .before .before in
-    let s = tabled .before .before .before .before .before .before .before .before .before .before in (
+    let measured = padded .before .before in
+    let tabled = measured .before .before .before in
+    let s = tabled .before .before .before .before .before .before .before .before .before .before in
+    let h = measured .head-bytes .ensures .0 in
+    let B = s .args .work .size in (
       s .pre .0,
       tabled .tabulated .ensures .2,
-      record { cut = formed .form-of .ensures; padded = padded .pad .ensures .1; whole = s .pre .1 .whole },
+      record {
+        cut = subst (λ (n : ℕ). Cut (formed .form-of .result) n B) h (formed .form-of .ensures);
+        padded = padded .pad .ensures .1 ∙ ap (λ (n : ℕ). padding (n + B)) h;
+        whole = s .pre .1 .whole;
+      },
       s .pre .1 .starts-long,
       s .pre .1 .ends-long,
     )
@@ -91,7 +104,7 @@ same-length-4 c = search needs
 returns : tie.Need-returns
 returns c =
     let done = c .before .before .before .before .before .before in
-    let worded = done .before .before .before .before .before .before .before .before .before .before .before .before .before .before in
+    let worded = done .before .before .before .before .before .before .before .before .before .before .before .before .before .before .before in
     let keyed = worded .before .before in
     let a = keyed .before .before .before .before .before .before .args in
     done .several-in .ensures (tokenKey (a .w) (a .i .0)) (worded .key-words .ensures ∙ ap keyWords (keyed .token-key .ensures))
@@ -104,6 +117,7 @@ by-blocks-spec =
     slice-aggregate-key-words
     key-words-requires
     tabulated-requires
+    head-bytes-requires
     add-pad
     pad-requires
     form-of-requires

@@ -20,7 +20,7 @@ abbrev Inv-loop : tie.InvT-loop
 Inv-loop words table z i work f new pad starts₀ ends₀ p₀ at₀ run₀ left₀ starts ends p at run left =
     (left ≤ work .count)
     × Made z (i .0) run
-    × Fits f (work .size) pad p
+    × Fits f (work .version) (work .size) pad p
     × Sound (run .sum) f new at
     × (length starts ≡ 256)
     × (length ends ≡ 256)

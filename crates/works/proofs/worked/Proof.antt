@@ -17,7 +17,7 @@ alone-requires c κs = search needs
 several-requires : tie.Need-several-requires
 several-requires c κs =
     let many = c .before .before .before .before in
-    let s = many .before .before .before .before .before .before .before .before in
+    let s = many .before .before .before .before .before .before .before .before .before .before in
     let m : alone (s .args .work) ≡ false = sym (many .before .alone .ensures) ∙ not-true _ (many .if1 .taken) in
     (s .pre .0 .several m, s .pre .1 m)
 
@@ -37,35 +37,38 @@ returns : tie.Need-returns
 returns c =
     let done = c .before .before .before .before .before .before .before .before in
     let many = done .before .before .before .before .before in
-    let s = many .before .before .before .before .before .before .before .before in
+    let s = many .before .before .before .before .before .before .before .before .before .before in
     let a = s .args in
     let m : alone (a .work) ≡ false = sym (many .before .alone .ensures) ∙ not-true _ (many .if1 .taken) in
     done .several .ensures
-    ∙ after-all (tokenKey (a .w) (a .i .0)) (tokenKey (a .z) (a .i .0)) (a .work) (a .new .now) (a .old .now) (a .x) (λ l. s .pre .0 .several m .added l .fresh)
+    ∙ after-all (tokenKey (a .w) (a .i .0)) (tokenKey (a .z) (a .i .0)) (a .work) (a .new .now) (a .old-mark .now) (a .old .now) (a .new-mark .now) (a .x)
+    (λ l. s .pre .0 .several m .added l .fresh) (s .pre .0 .living m)
 
 slice-aggregate-changed : tie.Need-slice-aggregate-changed
 slice-aggregate-changed c =
     let one = c .before in
-    let s = one .before .before .before .before .before .before .before .before in
+    let s = one .before .before .before .before .before .before .before .before .before .before in
     let lent = s .pre .0 .one (sym (one .before .alone .ensures) ∙ not-false _ (one .if1 .left)) in
     sym (length-take-le (s .args .work .size) (s .args .old .now) (lent .old-whole))
 
 slice-aggregate-changed-2 : tie.Need-slice-aggregate-changed-2
 slice-aggregate-changed-2 c =
     let one = c .before .before in
-    let s = one .before .before .before .before .before .before .before .before in
+    let s = one .before .before .before .before .before .before .before .before .before .before in
     let lent = s .pre .0 .one (sym (one .before .alone .ensures) ∙ not-false _ (one .if1 .left)) in
     sym (length-take-le (s .args .work .size) (s .args .new .now) (lent .new-whole))
 
 changed-requires : tie.Need-changed-requires
 changed-requires c κs =
     let one = c .before .before in
-    let s = one .before .before .before .before .before .before .before .before in
+    let s = one .before .before .before .before .before .before .before .before .before .before in
     let a = s .args in
     let lent = s .pre .0 .one (sym (one .before .alone .ensures) ∙ not-false _ (one .if1 .left)) in (
       (lent .rowed, lent .few-rows, lent .from-one, omega (arith, lent .most)),
       (
+        lent .old-mark,
         omega (arith, length-take-le (a .work .size) (a .old .now) (lent .old-whole), lent .small),
+        lent .new-mark,
         omega (arith, length-take-le (a .work .size) (a .new .now) (lent .new-whole), lent .small),
       ),
     )
@@ -73,9 +76,9 @@ changed-requires c κs =
 returns-2 : tie.Need-returns-2
 returns-2 c =
     let one = c .before .before .before in
-    let s = one .before .before .before .before .before .before .before .before in
+    let s = one .before .before .before .before .before .before .before .before .before .before in
     let a = s .args in
-    after-one (tokenKey (a .w) (a .i .0)) (tokenKey (a .z) (a .i .0)) (a .work) (a .old .now) (a .new .now) (a .x)
+    after-one (tokenKey (a .w) (a .i .0)) (tokenKey (a .z) (a .i .0)) (a .work) (a .old-mark .now) (a .old .now) (a .new-mark .now) (a .new .now) (a .x)
     (sym (one .before .alone .ensures) ∙ not-false _ (one .if1 .left)) _ (c .changed .ensures)
 
 pub worked-spec : {M : Type 1} → statement M

@@ -1,0 +1,163 @@
+-- Laws of judging at the standard primitives: codes and causes from tests, and what a refusal and an answer leave. Assumes nothing.
+--   judge-short, judge-of                              the code of a judging that is turned away
+--   Lent, judge-held                                   what one that is not has
+--   judge-kept, judge-done                             what judge answers and leaves
+--   record-head, record-number                         what the record in a reply begins with, and a number in it
+--   not-held, not-equal, all-equal                     the cause that the sealed bytes give
+--   cause-of                                           the cause of a reply from its tests
+use Prim.Native.Nat.{ℕ, _+_}
+use native.Mathlib.Omega.{arith}
+use mathlib.Core.Path.{_≡_, sym, ap, ap₂, _∙_}
+use mathlib.Core.Bool.{Bool, true, false, cond, _&&_}
+use mathlib.Core.List.{List, [], _∷_}
+use mathlib.Core.Option.{none, some}
+use borrow.Author.Tests.{eq-eqb, eqb-true}
+use lib.ListN.{length, take, drop, replicate, length-drop}
+use lib.Seq.{take-all, drop-drop}
+use lib.Dec.{eqb, ltb}
+use Rattle.octets.specs.Octets.{ofBe, part, put, same}
+use Rattle.octets.proofs.PartLaws.{length-part, put-whole}
+use Rattle.chacha20.specs.ChaCha20.{cipher, keyWords}
+use Rattle.aead.specs.Aead.{opens, opened}
+use Rattle.aead.proofs.Sealing.{opened-part}
+use Rattle.scheme.specs.Ladder.{first, ifZero}
+use Rattle.scheme.specs.Records as R
+use Rattle.scheme.specs.Records.{headFits, nonceBytes, readCard, cardBytes}
+use Rattle.scheme.specs.Tokens.{keyK}
+use Rattle.scheme.specs.Table.{there, value, bodyIn}
+use Rattle.scheme.specs.Judging as J
+use Rattle.scheme.specs.Calls.{turnedCard, judgeFault, judgeCode, judgeCard}
+use Rattle.standard.specs.Standard.{standard}
+use Rattle.records.specs.Fields.{cardOf, cardFault}
+use Rattle.records.specs.declared.Card as DC
+use Rattle.records.proofs.FaultLaws.{card-rungs, rungs-other, rungs-passed, rungs-zero, card-fine}
+use Rattle.scheme.proofs.LadderLaws.{kept, done}
+
+-- what a judging that is not turned away has
+pub record Lent (master card : List ℕ) : Type 0 where
+  pub key32 : length master ≡ 32
+  pub long : length card ≡ 43
+  pub fault : cardFault card ≡ 0
+
+module _ (master card : List ℕ) where
+  abbrev judge-rest : R.Card → ℕ
+  judge-rest c = first 0 ((ltb 0 (c .open′), 9) ∷ [])
+
+  judge-whole : judgeFault standard master card ≡ cond (eqb (length master) 32) (ifZero (cardFault card) (judge-rest (readCard card)) (cardFault card)) 1
+  unfolding judgeFault
+  judge-whole = card-rungs (eqb (length master) 32) card _
+
+  pub judge-short : eqb (length master) 32 ≡ false → 1 ≡ judgeFault standard master card
+  judge-short h = rungs-other (eqb (length master) 32) (cardFault card) (judge-rest (readCard card)) judge-whole h
+
+  pub judge-of : {b : Bool} (c : DC.Card) → length master ≡ 32 → cardFault card ≡ 0 → cardOf c ≡ readCard card
+      → ltb 0 (c .«open_token») ≡ b → cond b 0 9 ≡ judgeFault standard master card
+  unfolding first cardOf
+  judge-of {b} c lm z e p =
+      let tail : judge-rest (cardOf c) ≡ cond b 0 9 = rw p in
+      sym (rungs-passed (eqb (length master) 32) (cardFault card) (judge-rest (readCard card)) judge-whole (eq-eqb (length master) 32 lm) z ∙ ap judge-rest (sym e) ∙ tail)
+
+  pub judge-held : (n : ℕ) → n ≡ judgeFault standard master card → n ≡ 0 → Lent master card
+  judge-held n e z =
+      let p = rungs-zero (eqb (length master) 32) (cardFault card) (judge-rest (readCard card)) judge-whole (sym e ∙ z) in
+      record { key32 = eqb-true (length master) 32 (p .0); long = card-fine card (p .1) .long; fault = p .1 }
+
+  module _ (reply : List ℕ) (n : ℕ) (e : n ≡ judgeFault standard master card) where
+    pub judge-kept : (n ≡ 0 → ⊥) → (n ≡ judgeCode standard master card reply) × (card ≡ judgeCard standard master card reply)
+    unfolding judgeCode judgeCard
+    judge-kept h = (e ∙ kept _ _ (judgeFault standard master card) n e h, kept _ _ card n e h)
+
+    pub judge-done : (c : R.Card) (r : ℕ) (card′ : List ℕ) → n ≡ 0 → c ≡ readCard card
+        → r ≡ J.verdictOf (J.cause standard master c reply) → card′ ≡ cardBytes (turnedCard c (c .next) 0)
+        → (r ≡ judgeCode standard master card reply) × (card′ ≡ judgeCard standard master card reply)
+    unfolding judgeCode judgeCard J.verdict
+    judge-done c r card′ z k p q = (
+      p ∙ ap (λ (x : R.Card). J.verdictOf (J.cause standard master x reply)) k ∙ done _ _ (judgeFault standard master card) n e z,
+      q ∙ ap (λ (x : R.Card). cardBytes (turnedCard x (x .next) 0)) k ∙ done _ _ card n e z,
+    )
+
+-- the record in a reply of 110 bytes
+module _ (reply : List ℕ) (long : length reply ≡ 110) where
+  pub record-head : part 47 63 reply ≡ drop 47 reply
+  record-head = take-all 63 (drop 47 reply) (omega (arith, length-drop 47 reply))
+
+  pub record-number : (at k : ℕ) → part at k (drop 47 reply) ≡ part (47 + at) k reply
+  record-number at k = ap (take k) (drop-drop at 47 reply)
+
+  module _ (key : List ℕ) (ctr i : ℕ) where
+    abbrev pub tag-holds : Bool
+    tag-holds = opens (keyWords key) (nonceBytes ctr i) (part 47 15 reply) (part 62 32 reply) (part 94 16 reply)
+
+    abbrev pub token : List ℕ
+    token = cipher (keyWords key) 1 (nonceBytes ctr i) (part 62 32 reply)
+
+    record-body : drop 15 (drop 47 reply) ≡ part 62 48 reply
+    record-body =
+        sym (take-all 48 (drop 15 (drop 47 reply)) (omega (arith, length-drop 15 (drop 47 reply), length-drop 47 reply)))
+        ∙ record-number 15 48
+
+    body-is : bodyIn standard key ctr i (drop 47 reply) ≡ cond tag-holds (some token) none
+    unfolding bodyIn
+    body-is =
+        ap (λ (x : List ℕ). opened (keyWords key) (nonceBytes ctr i) (part 47 15 reply) x) record-body
+        ∙ opened-part (keyWords key) (nonceBytes ctr i) (part 47 15 reply) reply 62 (omega arith)
+
+    -- the cause that the sealed bytes give
+    abbrev pub sealed-cause : J.Cause
+    sealed-cause =
+        first J.noCause
+        ((there (bodyIn standard key ctr i (drop 47 reply)), J.badTag)
+        ∷ (same (value (bodyIn standard key ctr i (drop 47 reply))) (part 15 32 reply), J.otherDigest)
+        ∷ [])
+
+    pub tag-bad : tag-holds ≡ false → J.badTag ≡ sealed-cause
+    unfolding first
+    tag-bad h = rw (body-is, h)
+
+    pub digest-other : tag-holds ≡ true → same token (part 15 32 reply) ≡ false → J.otherDigest ≡ sealed-cause
+    unfolding first
+    digest-other h g = rw (body-is, h, g)
+
+    pub reply-sound : tag-holds ≡ true → same token (part 15 32 reply) ≡ true → J.noCause ≡ sealed-cause
+    unfolding first
+    reply-sound h g = rw (body-is, h, g)
+
+    -- the same, from what the calls ensure
+    module _ (words nonce : List ℕ) (w : words ≡ keyWords key) (v : nonce ≡ nonceBytes ctr i) (holds : Bool)
+        (o : holds ≡ opens words nonce (part 47 15 reply) (part 62 32 reply) (part 94 16 reply)) where
+      tag-is : holds ≡ tag-holds
+      tag-is = o ∙ ap₂ (λ (u n : List ℕ). opens u n (part 47 15 reply) (part 62 32 reply) (part 94 16 reply)) w v
+
+      pub not-held : holds ≡ false → J.badTag ≡ sealed-cause
+      not-held h = tag-bad (sym tag-is ∙ h)
+
+      module _ (held : holds ≡ true) (x y : List ℕ) (a : x ≡ put 0 (part 62 32 reply) (replicate 32 0)) (d : y ≡ cipher words 1 nonce x)
+          (equal : Bool) (g : equal ≡ same y (part 15 32 reply)) where
+        copied : x ≡ part 62 32 reply
+        copied = a ∙ put-whole (part 62 32 reply) (replicate 32 0) (length-part 62 32 reply (omega arith))
+
+        token-is : equal ≡ same token (part 15 32 reply)
+        token-is = g ∙ ap (λ (u : List ℕ). same u (part 15 32 reply)) (d ∙ ap₂ (λ (u n : List ℕ). cipher u 1 n x) w v ∙ ap (cipher (keyWords key) 1 (nonceBytes ctr i)) copied)
+
+        pub not-equal : equal ≡ false → J.otherDigest ≡ sealed-cause
+        not-equal h = digest-other (sym tag-is ∙ held) (sym token-is ∙ h)
+
+        pub all-equal : equal ≡ true → J.noCause ≡ sealed-cause
+        all-equal h = reply-sound (sym tag-is ∙ held) (sym token-is ∙ h)
+
+-- the cause of a reply from its tests
+module _ (key master : List ℕ) (c : DC.Card) (reply : List ℕ) (k : key ≡ keyK standard master (c .id)) where
+  abbrev names : Bool
+  names =
+      same (part 3 8 reply) (c .id) && eqb (ofBe (part 11 4 reply)) (c .«open_token») && eqb (ofBe (part 11 4 (drop 47 reply))) (c .«open_token»)
+
+  pub cause-of : {b₁ b₂ b₃ b₄ : Bool} {why : J.Cause} → eqb (length reply) 110 ≡ b₁ → (headFits 108 (c .version) reply && headFits 61 (c .version) (drop 47 reply)) ≡ b₂
+      → names ≡ b₃ → eqb (ofBe (part 3 8 (drop 47 reply))) (c .counter) ≡ b₄
+      → why ≡ cond b₁ (cond b₂ (cond b₃ (cond b₄
+      (first J.noCause
+      ((there (bodyIn standard key (c .counter) (c .«open_token») (drop 47 reply)), J.badTag)
+      ∷ (same (value (bodyIn standard key (c .counter) (c .«open_token») (drop 47 reply))) (part 15 32 reply), J.otherDigest)
+      ∷ [])) J.otherCounter) J.otherToken) J.wrongHeader) J.wrongSize
+      → why ≡ J.cause standard master (cardOf c) reply
+  unfolding J.cause cardOf first
+  cause-of p₁ p₂ p₃ p₄ e = e ∙ rw (k, p₁, p₂, p₃, p₄)
