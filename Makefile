@@ -19,7 +19,7 @@ LIB := target/legbaro$(CPU:%=-%)
 OUT := target/c$(CPU:%=-%)
 COMPILE = $(CC) -std=c99 -pedantic -Wall -Wextra $(CFLAGS) -I$(LIB)
 LINK = -L$(LIB) -llegbaro
-SHARED := $(wildcard tests/second_*.c) $(addprefix tests/,book.c calls.c files.c buffers.c chance.c groups.c)
+SHARED := $(wildcard tests/second_*.c) $(addprefix tests/,book.c calls.c files.c buffers.c chance.c groups.c hours.c)
 
 week: $(OUT)/week
 	@$(OUT)/week

@@ -112,7 +112,7 @@ void make_folders(const char *name)
 
 void remove_folders(const char *name)
 {
-    static const char *const names[] = {"owner/master", "owner/card",         "owner/table", "owner",
+    static const char *const names[] = {"owner/master", "owner/card",         "owner/table", "owner/plan", "owner",
                                         "host/blocks",  "host/blocks-before", "host/table",  "host/table-before",
                                         "host/message", "host/reply",         "host/marks",  "host"};
     for (size_t i = 0; i < sizeof names / sizeof *names; i++)

@@ -4,6 +4,9 @@
 #include <stdlib.h>
 #include <string.h>
 
+/* A window of a weekly plan: the minutes of the day at which it opens and shuts, 2 bytes each. */
+#define WINDOW(start, end) (start) / 256, (start) % 256, (end) / 256, (end) % 256
+
 /* An example key, for this program only. A real one is random, secret, and set up once for each file id. */
 static const char example_master[] = "Example key: for this demo only!";
 
@@ -68,9 +71,16 @@ uint64_t host_proves(void)
 
 /* ---- The owner: set-up ---- */
 
+/* Draws are allowed from 21:00 to 6:00 in the morning, and on Sundays from 8:00 to 22:00. */
+static const uint8_t closing_hours[LEGBARO_PLAN_BYTES] = {
+    WINDOW(21 * 60, 6 * 60), WINDOW(21 * 60, 6 * 60), WINDOW(21 * 60, 6 * 60), WINDOW(21 * 60, 6 * 60),
+    WINDOW(21 * 60, 6 * 60), WINDOW(21 * 60, 6 * 60), WINDOW(8 * 60, 22 * 60),
+};
+
 void owner_begins(struct bytes blocks)
 {
     write_file("owner/master", example_master, LEGBARO_MASTER_BYTES);
+    write_file("owner/plan", closing_hours, sizeof closing_hours);
     write_file("owner/blocks", LENT(blocks));
 }
 
@@ -239,15 +249,28 @@ uint64_t owner_corrects(const struct correction *corrections, size_t count)
 
 /* ---- The owner: audits ---- */
 
-uint64_t owner_draws(void)
+uint64_t owner_draws(const struct moment *now)
 {
-    struct bytes master = read_file("owner/master"), card = read_file("owner/card"), message = room(LEGBARO_MESSAGE_BYTES);
-    uint64_t result = legbaro_draw(LENT(master), LENT(card), LENT(message));
-    write_file("owner/card", LENT(card));
-    write_file("host/message", LENT(message));
+    struct bytes master = read_file("owner/master"), card = read_file("owner/card"), plan = read_file("owner/plan");
+    struct bytes message = room(LEGBARO_MESSAGE_BYTES);
+    uint64_t result =
+        legbaro_draw(LENT(master), LENT(card), LENT(message), LENT(plan), now->year, now->month, now->day, now->minute);
+    if (result == LEGBARO_OK) {
+        write_file("owner/card", LENT(card));
+        write_file("host/message", LENT(message));
+    }
     free(master.at);
     free(card.at);
+    free(plan.at);
     free(message.at);
+    return result;
+}
+
+uint64_t owner_waits(const struct moment *now)
+{
+    struct bytes plan = read_file("owner/plan");
+    uint64_t result = legbaro_wait(LENT(plan), now->year, now->month, now->day, now->minute);
+    free(plan.at);
     return result;
 }
 

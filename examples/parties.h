@@ -14,7 +14,12 @@ struct plan {
     uint64_t version, block_bytes, rows, positions, tokens;
 };
 
-/* Gives the owner its key and the first blocks. */
+/* A time on the owner's clock. */
+struct moment {
+    uint64_t year, month, day, minute;
+};
+
+/* Gives the owner its key, the week's plan of draws and the first blocks. */
 void owner_begins(struct bytes blocks);
 
 /* Makes card and table from these blocks, and sends table and blocks to the host, and in version 2 a mark for each block. */
@@ -41,8 +46,11 @@ struct correction {
 /* Corrects blocks together, in one batch: fetches them, and puts the others in their places; the host does the same. */
 uint64_t owner_corrects(const struct correction *corrections, size_t count);
 
-/* Draws a message and sends it to the host; judges the reply that the host sent. */
-uint64_t owner_draws(void);
+/* Draws a message and sends it to the host, where the plan allows a draw now; how long to wait for that. */
+uint64_t owner_draws(const struct moment *now);
+uint64_t owner_waits(const struct moment *now);
+
+/* Judges the reply that the host sent. */
 uint64_t owner_judges(void);
 
 /* Answers the message. The host has nothing but the message, its blocks, their marks and its table. */

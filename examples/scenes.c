@@ -33,6 +33,8 @@ void tell(const char *step, uint64_t result, uint64_t expected)
         [LEGBARO_NOT_WHOLE_BLOCKS] = "turned away: these are not whole blocks",
         [LEGBARO_TOO_MANY_POSITIONS] = "turned away: more than 512 positions",
         [LEGBARO_BAD_MARK] = "turned away: no mark of a block",
+        [LEGBARO_BAD_TIME] = "turned away: there is no such time",
+        [LEGBARO_OUTSIDE_WINDOWS] = "turned away: the plan allows no draw now",
         [LEGBARO_BAD_BATCH] = "turned away: these items are no batch",
     };
     printf("  %-56s %s\n", step, results[LEGBARO_CODE(result)]);
@@ -49,7 +51,7 @@ int surprises(void)
 
 void tell_files(const char *party)
 {
-    static const char *const names[] = {"master", "card", "blocks", "marks", "table"};
+    static const char *const names[] = {"master", "card", "plan", "blocks", "marks", "table"};
     char name[32];
     printf("  the %s holds:", party);
     for (size_t i = 0; i < sizeof names / sizeof *names; i++) {
@@ -68,9 +70,16 @@ void tell_card(void)
            (unsigned long)in_card(LEGBARO_CARD_NEXT, 4), (unsigned long)in_card(LEGBARO_CARD_TOKENS, 4));
 }
 
+void draw_at(struct moment now, uint64_t code)
+{
+    tell("the owner draws a token and sends the message:", owner_draws(&now), code);
+}
+
+/* A Monday at 22:15. */
 void draw(void)
 {
-    tell("the owner draws a token and sends the message:", owner_draws(), LEGBARO_OK);
+    struct moment evening = {2026, 11, 23, 22 * 60 + 15};
+    draw_at(evening, LEGBARO_OK);
 }
 
 void prove_and_judge(uint64_t verdict)

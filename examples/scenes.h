@@ -26,8 +26,9 @@ int surprises(void);
 void tell_files(const char *party);
 void tell_card(void);
 
-/* The first step of an audit, and the other two with the verdict that is expected. */
+/* The first step of an audit, in closing hours or at a time with the code that is expected; and the other two with the verdict that is. */
 void draw(void);
+void draw_at(struct moment now, uint64_t code);
 void prove_and_judge(uint64_t verdict);
 
 #endif

@@ -76,10 +76,20 @@ static void changes(void)
 
 /* ---- The audits ---- */
 
+/* The first draw comes while shops trade; the second one when the window has opened. */
 static void audit_sound_host(void)
 {
-    puts("\nAUDIT OF THE HOST AS IT IS");
-    draw();
+    struct moment morning = {2026, 11, 23, 10 * 60 + 30}, evening = morning;
+    puts("\nAUDIT OF THE HOST AS IT IS, IN CLOSING HOURS");
+    puts("  The host reads slowly while shops trade. The plan allows draws from 21:00 to 6:00, and on Sundays from 8:00 to 22:00.");
+    puts("  It is Monday, 23 November 2026, 10:30.");
+    draw_at(morning, LEGBARO_OUTSIDE_WINDOWS);
+    uint64_t wait = owner_waits(&morning);
+    tell("the wait for a window:", wait, LEGBARO_OK);
+    evening.minute += LEGBARO_NUMBER(wait);
+    printf("  It is %lu minutes: the owner draws at %lu:%02lu.\n", (unsigned long)LEGBARO_NUMBER(wait),
+           (unsigned long)evening.minute / 60, (unsigned long)evening.minute % 60);
+    draw_at(evening, LEGBARO_OK);
     prove_and_judge(LEGBARO_OK);
     puts("  The host holds every block, the newest too: the signs may be calibrated.");
 }

@@ -23,8 +23,16 @@
  * all marks to its proof. A file of version 1 has no marks: there the buffers for them are empty. Take version 2 for a new file. The
  * version is fixed at set-up, and card, token records, messages and replies bear it.
  *
+ * DRAWS IN CLOSING HOURS. A host reads slowly while shops trade, so a centre has a weekly plan of when it draws. The plan has
+ * LEGBARO_PLAN_BYTES: for each weekday, Monday first, the minute of the day at which its window opens and the minute at which it shuts,
+ * 2 bytes each, big-endian, from 0 to 1,439. The window allows draws from the first minute on, and no longer at the second one; the two are
+ * equal for a day without a window. Where the second is the smaller one, the window runs past midnight into the next day, Sunday's into
+ * Monday; a second minute of 0 is midnight. A minute is allowed by the window of its own day or by that of the day before. A time is a
+ * Gregorian date from 1 January 2000 to 31 December 2099 and a minute from 0 to 1,439: what the owner's clock says, in the time that the
+ * plan is meant in. The library has no clock, and takes the time as it is told.
+ *
  * RESULT. Every call returns code + 256 * number. The code is 0 for an accepted call. The number is 0 but in two cases: with
- * LEGBARO_BAD_RECORD it is a token, and from legbaro_positions, with code 0, it is what was asked for.
+ * LEGBARO_BAD_RECORD it is a token, and from legbaro_positions and legbaro_wait, with code 0, it is what was asked for.
  * A call that is turned away (any code but 0 and LEGBARO_REJECTED) leaves every buffer as it was. The codes of each call stand
  * below in the order in which they are tested: of several faults the first is told.
  *
@@ -62,6 +70,7 @@ extern "C" {
 #define LEGBARO_RECORD_BYTES 63
 #define LEGBARO_MESSAGE_BYTES 91
 #define LEGBARO_REPLY_BYTES 110
+#define LEGBARO_PLAN_BYTES 28
 
 /* Versions of a file, and the marks of a block. */
 #define LEGBARO_WITHOUT_MARKS 1
@@ -78,11 +87,15 @@ extern "C" {
 #define LEGBARO_MOST_ITEMS 64         /* the changes in a batch */
 #define LEGBARO_MOST_COUNTER 4294967295u
 
+/* The minutes of a day, which are numbered from 0, and of a week. */
+#define LEGBARO_DAY_MINUTES 1440
+#define LEGBARO_WEEK_MINUTES 10080
+
 /* Codes. */
 #define LEGBARO_OK 0
 #define LEGBARO_WRONG_LENGTH 1        /* a buffer has another length than the call asks */
 #define LEGBARO_WRONG_HEADER 2        /* the length field of the card or the message is wrong, or its version is neither 1 nor 2 */
-#define LEGBARO_OUT_OF_LIMITS 3       /* a field of the card or the message, or a number lent, is outside its limits */
+#define LEGBARO_OUT_OF_LIMITS 3       /* a field of card, message or plan, or a number lent, is outside its limits */
 #define LEGBARO_NO_SUCH_BLOCK 4       /* the block number, or one in a batch, is 0 or above n */
 #define LEGBARO_FILE_FULL 5           /* append or load that would make n more than LEGBARO_MOST_BLOCKS */
 #define LEGBARO_NO_TOKEN_LEFT 6       /* draw after the last token */
@@ -95,6 +108,8 @@ extern "C" {
 #define LEGBARO_TOO_MANY_POSITIONS 13 /* the positions asked for are more than LEGBARO_MOST_POSITIONS */
 #define LEGBARO_BAD_BATCH 14          /* a batch of no item, too many or no whole ones, of another kind, or with numbers that do not rise */
 #define LEGBARO_BAD_MARK 15           /* a mark is neither LEGBARO_LIVE nor LEGBARO_DELETED */
+#define LEGBARO_BAD_TIME 16           /* there is no such date, or it or the minute is outside the limits */
+#define LEGBARO_OUTSIDE_WINDOWS 17    /* draw at a time that the plan does not allow */
 
 /* The two parts of a result: the code, and the number, which is a token with LEGBARO_BAD_RECORD. */
 #define LEGBARO_CODE(result) ((result) % 256)
@@ -260,13 +275,30 @@ uint64_t legbaro_batch(const uint8_t *master, size_t master_length,
  *   master     LEGBARO_MASTER_BYTES
  *   card       LEGBARO_CARD_BYTES, written: next becomes open, and next rises by 1
  *   message    LEGBARO_MESSAGE_BYTES, written
+ *   plan       LEGBARO_PLAN_BYTES: the windows of the week
+ *   year, month, day, minute   the time now
  *
  * Until the reply is judged no change and no further draw is accepted. The message holds the keys of this token alone.
- * Codes: 1, 2, 3, 8, 6.
+ * Codes: 16, 1 (master, card, message, plan), 2, 3 (card, plan), 17, 8, 6. With 17 legbaro_wait tells how long to wait.
  */
 uint64_t legbaro_draw(const uint8_t *master, size_t master_length,
                       uint8_t *card, size_t card_length,
-                      uint8_t *message, size_t message_length);
+                      uint8_t *message, size_t message_length,
+                      const uint8_t *plan, size_t plan_length,
+                      uint64_t year, uint64_t month, uint64_t day, uint64_t minute);
+
+/*
+ * Wait, the owner's: how many minutes there are until the plan allows a draw.
+ *
+ *   plan       LEGBARO_PLAN_BYTES: the windows of the week
+ *   year, month, day, minute   the time now
+ *
+ * Returns code 0 and the number of minutes: 0 where a draw is allowed now, and LEGBARO_WEEK_MINUTES where it never is. A wait may go past
+ * 31 December 2099.
+ * Codes: 16, 1 (plan), 3 (plan).
+ */
+uint64_t legbaro_wait(const uint8_t *plan, size_t plan_length,
+                      uint64_t year, uint64_t month, uint64_t day, uint64_t minute);
 
 /*
  * Judge, the owner's: 0 where the reply proves that the host holds the rows drawn as they are now, else LEGBARO_REJECTED.

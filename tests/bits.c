@@ -94,6 +94,21 @@ static void proof_bits(const struct file *judging)
     group_end();
 }
 
+/* Every bit of a plan, in a draw and in a wait. */
+static void plan_bits(const struct file *changing)
+{
+    group_begin("every bit of a plan");
+    for (size_t bit = 0; bit < 8 * LEGBARO_PLAN_BYTES; bit++) {
+        struct call wait = file_call(changing, DRAW);
+        with_bit(changing, DRAW, PLAN, bit);
+        wait.kind = WAIT;
+        buffer_flip(&wait.lent[PLAN], bit);
+        call_compare(&wait);
+        call_free(&wait);
+    }
+    group_end();
+}
+
 /* Every bit of the master: no unused record opens, and no reply is accepted. */
 static void master_bits(const struct file *changing, const struct file *judging)
 {
@@ -120,6 +135,7 @@ static void version_bits(uint64_t version)
     card_bits(&changing, &judging);
     record_bits(&changing);
     item_bits(&changing);
+    plan_bits(&changing);
     reply_bits(&judging);
     proof_bits(&judging);
     master_bits(&changing, &judging);

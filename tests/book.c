@@ -95,12 +95,14 @@ static struct edit edit_of(const struct call *call)
 static uint64_t turned_away(const struct book *book, const struct call *call)
 {
     struct edit edit;
+    struct when when = {call->year, call->month, call->day, call->minute};
     uint8_t card[LEGBARO_CARD_BYTES];
     size_t master_length = call->lent[MASTER].length;
     book_card(book, card);
     switch (call->kind) {
     case DRAW:
-        return second_draw_fault(master_length, card, sizeof card, call->lent[MESSAGE].length);
+        return second_draw_fault(master_length, card, sizeof card, call->lent[MESSAGE].length, call->lent[PLAN].bytes,
+                                 call->lent[PLAN].length, &when);
     case JUDGE:
         return second_judge_fault(master_length, card, sizeof card);
     default:

@@ -19,14 +19,15 @@ static const struct {
     [APPEND] = {"append", CHANGE | BIT(NEW), BIT(CARD) | BIT(TABLE)},
     [LOAD] = {"load", CHANGE | BIT(BLOCKS), BIT(CARD) | BIT(TABLE)},
     [BATCH] = {"batch", CHANGE | BIT(ITEMS), BIT(CARD) | BIT(TABLE)},
-    [DRAW] = {"draw", BIT(MASTER) | BIT(CARD) | BIT(MESSAGE), BIT(CARD) | BIT(MESSAGE)},
+    [DRAW] = {"draw", BIT(MASTER) | BIT(CARD) | BIT(MESSAGE) | BIT(PLAN), BIT(CARD) | BIT(MESSAGE)},
     [JUDGE] = {"judge", BIT(MASTER) | BIT(CARD) | BIT(REPLY), BIT(CARD)},
     [PROVE] = {"prove", BIT(MESSAGE) | BIT(BLOCKS) | BIT(MARKS) | BIT(TABLE) | BIT(REPLY), BIT(REPLY)},
     [POSITIONS] = {"positions", 0, 0},
+    [WAIT] = {"wait", BIT(PLAN), 0},
 };
 
 static const char *const roles[ROLES] = {"master", "id",        "blocks", "card",    "table", "old block",
-                                         "marks",  "new block", "items",  "message", "reply"};
+                                         "marks",  "new block", "items",  "message", "plan",  "reply"};
 
 static unsigned long counts[KINDS][LAST_CODE + 1];
 

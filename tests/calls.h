@@ -5,17 +5,18 @@
 #include "buffers.h"
 #include "legbaro.h"
 
-enum kind { SET_UP, UPDATE, DELETE, APPEND, LOAD, BATCH, DRAW, JUDGE, PROVE, POSITIONS, KINDS };
+enum kind { SET_UP, UPDATE, DELETE, APPEND, LOAD, BATCH, DRAW, JUDGE, PROVE, POSITIONS, WAIT, KINDS };
 
 /* The highest code of any call. */
-enum { LAST_CODE = LEGBARO_BAD_MARK };
+enum { LAST_CODE = LEGBARO_OUTSIDE_WINDOWS };
 
-enum role { MASTER, ID, BLOCKS, CARD, TABLE, OLD, MARKS, NEW, ITEMS, MESSAGE, REPLY, ROLES };
+enum role { MASTER, ID, BLOCKS, CARD, TABLE, OLD, MARKS, NEW, ITEMS, MESSAGE, PLAN, REPLY, ROLES };
 
 struct call {
     enum kind kind;
-    uint64_t version, B, d, r, t, n; /* of a set-up; positions takes r, d and n */
-    uint64_t m;                      /* the block number of an update or a deletion */
+    uint64_t version, B, d, r, t, n;   /* of a set-up; positions takes r, d and n */
+    uint64_t m;                        /* the block number of an update or a deletion */
+    uint64_t year, month, day, minute; /* of a draw and of a wait */
     struct buffer lent[ROLES];
 };
 

@@ -11,6 +11,10 @@ enum target {
     NUMBER_T,
     NUMBER_N,
     NUMBER_M,
+    NUMBER_YEAR,
+    NUMBER_MONTH,
+    NUMBER_DAY,
+    NUMBER_MINUTE,
     CARD_LENGTH,
     CARD_VERSION,
     CARD_B,
@@ -28,6 +32,8 @@ enum target {
     MESSAGE_D,
     MESSAGE_R,
     MESSAGE_N,
+    PLAN_START,
+    PLAN_END,
     FIRST_MARK,
     LAST_MARK,
     FIRST_KIND,
@@ -66,6 +72,8 @@ static const struct {
     [MESSAGE_D] = {MESSAGE, 0, 17, 4},
     [MESSAGE_R] = {MESSAGE, 0, 21, 2},
     [MESSAGE_N] = {MESSAGE, 0, 23, 4},
+    [PLAN_START] = {PLAN, 0, 0, 2},
+    [PLAN_END] = {PLAN, 0, LEGBARO_PLAN_BYTES - 2, 2},
     [FIRST_MARK] = {MARKS, 0, 0, 1},
     [LAST_MARK] = {MARKS, 0, NOW_N - 1, 1},
     [FIRST_KIND] = {ITEMS, 0, LEGBARO_ITEM_KIND, 1},
@@ -82,6 +90,7 @@ static const struct {
 #define WITH_MASTER (IN(SET_UP) | READ_CARD)
 #define NUMBERS (IN(SET_UP) | IN(POSITIONS))
 #define WITH_MARKS (IN(UPDATE) | IN(DELETE) | IN(PROVE))
+#define TIMED (IN(DRAW) | IN(WAIT))
 #define MARKED IN_VERSION(LEGBARO_WITH_MARKS)
 
 /* Values with a meaning of their own: the token before next, whatever that is, for CARD_OPEN; and for the length of a buffer none,
@@ -121,6 +130,19 @@ const struct fault faults[] = {
     {IN(UPDATE) | IN(DELETE), BLOCK_NUMBER, NUMBER_M, 0},
     {IN(UPDATE) | IN(DELETE), BLOCK_NUMBER, NUMBER_M, NOW_N + 1},
     {IN(UPDATE) | IN(DELETE), BLOCK_NUMBER, NUMBER_M, UINT64_MAX},
+    {TIMED, TIME, NUMBER_YEAR, 1999},
+    {TIMED, TIME, NUMBER_YEAR, 2100},
+    {TIMED, TIME, NUMBER_YEAR, UINT64_MAX},
+    {TIMED, TIME, NUMBER_MONTH, 0},
+    {TIMED, TIME, NUMBER_MONTH, 13},
+    {TIMED, TIME, NUMBER_DAY, 0},
+    {TIMED, TIME, NUMBER_DAY, 31},
+    {TIMED, TIME, NUMBER_MINUTE, LEGBARO_DAY_MINUTES},
+    {TIMED, TIME, NUMBER_MINUTE, UINT64_MAX},
+    {IN(DRAW), WINDOWS, NUMBER_MINUTE, OPEN_UNTIL},
+    {TIMED, LIMITS, PLAN_START, LEGBARO_DAY_MINUTES},
+    {TIMED, LIMITS, PLAN_END, LEGBARO_DAY_MINUTES},
+    {TIMED, LIMITS, PLAN_END, UINT16_MAX},
     {READ_CARD, HEADER, CARD_LENGTH, 0},
     {READ_CARD, HEADER, CARD_LENGTH, LEGBARO_CARD_BYTES - 3},
     {READ_CARD, HEADER, CARD_LENGTH, LEGBARO_CARD_BYTES},
@@ -187,6 +209,7 @@ const struct fault faults[] = {
     WRONG_LENGTH(WITH_MASTER, FIXED_SIZE, CARD),
     WRONG_LENGTH(IN(SET_UP), FIXED_SIZE, ID),
     WRONG_LENGTH(IN(DRAW) | IN(PROVE), FIXED_SIZE, MESSAGE),
+    WRONG_LENGTH(TIMED, FIXED_SIZE, PLAN),
     WRONG_LENGTH(IN(PROVE), FIXED_SIZE, REPLY),
     WRONG_LENGTH(IN(SET_UP) | IN(PROVE), SIZE, BLOCKS),
     WRONG_LENGTH(IN(SET_UP) | CHANGES, SIZE, TABLE),
@@ -230,10 +253,11 @@ static void make_field_fault(struct call *call, const struct fault *fault, uint6
 
 void fault_make(struct call *call, const struct fault *fault, uint64_t version)
 {
-    uint64_t *const numbers[] = {&call->version, &call->B, &call->d, &call->r, &call->t, &call->n, &call->m};
+    uint64_t *const numbers[] = {&call->version, &call->B,    &call->d,     &call->r,   &call->t,     &call->n,
+                                 &call->m,       &call->year, &call->month, &call->day, &call->minute};
     if (fault->target < LENGTH_OF(ROLES))
         make_length_fault(&call->lent[fault->target], fault->value, version);
-    else if (fault->target <= NUMBER_M)
+    else if (fault->target <= NUMBER_MINUTE)
         *numbers[fault->target - NUMBER_VERSION] = fault->value;
     else if (fault->target == TAG_OF_RECORD_2)
         buffer_flip(&call->lent[TABLE], 8 * (2 * LEGBARO_RECORD_BYTES - 1));
@@ -244,10 +268,12 @@ void fault_make(struct call *call, const struct fault *fault, uint64_t version)
 uint64_t fault_number(enum place place, enum kind kind)
 {
     const uint64_t numbers[] = {
+        [TIME] = LEGBARO_BAD_TIME,
         [FIXED_SIZE] = LEGBARO_WRONG_LENGTH,
         [HEADER] = LEGBARO_WRONG_HEADER,
         [LIMITS] = LEGBARO_OUT_OF_LIMITS,
         [POSITIONS_GIVEN] = LEGBARO_TOO_MANY_POSITIONS,
+        [WINDOWS] = LEGBARO_OUTSIDE_WINDOWS,
         [SIZE] = LEGBARO_WRONG_LENGTH,
         [MARK] = LEGBARO_BAD_MARK,
         [OPEN_OR_NOT] = kind == JUDGE ? LEGBARO_NONE_OPEN : LEGBARO_TOKEN_OPEN,

@@ -14,12 +14,14 @@ enum { FIRST_ITEM = 2, MIDDLE_ITEM = 4, LAST_ITEM = 6 };
 
 /* "Order: 1 for buffers of fixed size, 2, 3, 1 for sizes that follow from fields, then 8 or 9, 6, 4, 5, 10, 7", and the verdict last; a
  * load's 12 "just before 5"; the helper's 13 "after 3"; a batch's 14 "just before 4"; 15 "after the lengths that follow from fields", "in a
- * batch straight after 14". */
+ * batch straight after 14"; of times "before everything else" 16, "and after 3 a draw outside every window (17)". */
 enum place {
+    TIME,
     FIXED_SIZE,
     HEADER,
     LIMITS,
     POSITIONS_GIVEN,
+    WINDOWS,
     SIZE,
     MARK,
     OPEN_OR_NOT,
@@ -42,6 +44,9 @@ struct fault {
     unsigned target;
     uint64_t value;
 };
+
+/* A plan whose windows are open but for the last minute of each day, and a time in them. */
+enum { YEAR = 2026, MONTH = 11, DAY = 16, MINUTE = 600, OPEN_UNTIL = LEGBARO_DAY_MINUTES - 1 };
 
 #define IN(kind) (1u << (kind))
 #define IN_VERSION(version) (1u << (KINDS + (version)))

@@ -4,6 +4,7 @@
 #include "fault_list.h"
 #include "files.h"
 #include "groups.h"
+#include "hours.h"
 
 /* Two files of one version on which only a fault turns a call away. On `changing`, for changes and draws, token 1 is spent; on `judging`,
  * for judgings and proofs, token 2 is drawn. */
@@ -20,6 +21,24 @@ static struct file prepared(void)
     return file;
 }
 
+/* Lends a call the plan and the time of fault_list.h. */
+static void at_an_open_hour(struct call *call)
+{
+    struct when when = {YEAR, MONTH, DAY, MINUTE};
+    buffer_free(&call->lent[PLAN]);
+    call->lent[PLAN] = plan_blank();
+    for (unsigned weekday = 0; weekday < 7; weekday++)
+        plan_window(&call->lent[PLAN], weekday, 0, OPEN_UNTIL);
+    call_at(call, &when);
+}
+
+static struct call open_wait(void)
+{
+    struct call call = {.kind = WAIT};
+    at_an_open_hour(&call);
+    return call;
+}
+
 /* A call that would be accepted. The table of a proof is just long enough. */
 static struct call faultless(enum kind kind)
 {
@@ -28,11 +47,15 @@ static struct call faultless(enum kind kind)
         return file_set_up_call(version, B, D, R, T, N);
     if (kind == POSITIONS)
         return (struct call){.kind = POSITIONS, .r = R, .d = D, .n = N};
+    if (kind == WAIT)
+        return open_wait();
     if (kind == LOAD)
         return file_load_call(&changing, LOADED);
     if (kind == BATCH)
         return file_batch_of(&changing, items, sizeof items / sizeof *items);
     struct call call = file_call(kind == JUDGE || kind == PROVE ? &judging : &changing, kind);
+    if (kind == DRAW)
+        at_an_open_hour(&call);
     if (kind == PROVE)
         buffer_resize(&call.lent[TABLE], 2 * LEGBARO_RECORD_BYTES);
     return call;

@@ -3,6 +3,7 @@
 
 #include "chance.h"
 #include "groups.h"
+#include "hours.h"
 
 #include <string.h>
 
@@ -125,6 +126,15 @@ static size_t a_few_items(const struct file *file)
     return 1 + chance_below(n < A_FEW ? n : A_FEW);
 }
 
+/* Lends a call any plan and any time that the plan allows. */
+static void lend_hours(struct call *call)
+{
+    struct when when = any_time();
+    call->lent[PLAN] = any_plan();
+    plan_allow(&call->lent[PLAN], &when);
+    call_at(call, &when);
+}
+
 struct call file_call(const struct file *file, enum kind kind)
 {
     const struct card *numbers = &file->book.numbers;
@@ -147,6 +157,8 @@ struct call file_call(const struct file *file, enum kind kind)
         call.lent[ITEMS] = any_items(file, a_few_items(file));
     if (call_takes(kind, MESSAGE))
         call.lent[MESSAGE] = buffer_copy(&file->message);
+    if (call_takes(kind, PLAN))
+        lend_hours(&call);
     if (call_takes(kind, REPLY))
         call.lent[REPLY] = kind == JUDGE ? honest_reply(file) : buffer_blank(LEGBARO_REPLY_BYTES);
     return call;

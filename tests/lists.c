@@ -4,6 +4,7 @@
 #include "chance.h"
 #include "files.h"
 #include "groups.h"
+#include "hours.h"
 
 enum { LONGEST = 40, MOST_TOKENS = 6, MOST_LOADED = 40 };
 
@@ -56,13 +57,27 @@ static void disturb_item(const struct file *file, struct buffer *items)
         buffer_put_number(items, block, 4, none[chance_below(COUNT(none))]);
 }
 
+/* Any plan and any time: it may or may not allow it. At times there is no such date or minute, or no such minute in the plan. */
+static void disturb_hours(struct call *call)
+{
+    struct when when = any_time();
+    uint64_t *const numbers[] = {&when.year, &when.month, &when.day, &when.minute};
+    if (chance_of(3))
+        *numbers[chance_below(COUNT(numbers))] = chance_of(2) ? 0 : 29 + chance_below(5000);
+    if (chance_of(4))
+        plan_window(&call->lent[PLAN], (unsigned)chance_below(7), chance_below(1 << 16), chance_below(1 << 16));
+    call_at(call, &when);
+}
+
 /* Something wrong in what a list may hold: anything lent but card and table, the master's bytes and a block's present bytes and mark. */
 static void disturb(const struct file *file, struct call *call)
 {
-    static const enum role lent[] = {MASTER, OLD, MARKS, NEW, BLOCKS, ITEMS, MESSAGE, REPLY};
+    static const enum role lent[] = {MASTER, OLD, MARKS, NEW, BLOCKS, ITEMS, MESSAGE, PLAN, REPLY};
     enum role role = lent[chance_below(COUNT(lent))];
     if (call->kind == BATCH && chance_of(2))
         disturb_item(file, &call->lent[ITEMS]);
+    else if (call->kind == DRAW && chance_of(2))
+        disturb_hours(call);
     else if (call->lent[MARKS].length == 1 && chance_of(4))
         call->lent[MARKS].bytes[0] = (uint8_t)no_mark();
     else if (chance_of(4))

@@ -61,6 +61,7 @@ int main(int count, char **words)
     test_versions();
     test_marks();
     test_plans();
+    test_times();
     test_lists(options.lists);
     if (!options.exact) {
         test_limits();

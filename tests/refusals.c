@@ -3,6 +3,7 @@
 
 #include "files.h"
 #include "groups.h"
+#include "hours.h"
 
 enum { B = 28, D = 5, R = 3, T = 3 };
 
@@ -122,6 +123,28 @@ static void too_many_positions(void)
     call_finish(&call, LEGBARO_TOO_MANY_POSITIONS, "513 positions");
 }
 
+/* Codes 16 and 17's small inputs: 31 November, minute 1,440, a draw with no window. */
+static void broken_hours(const struct file *file)
+{
+    struct when no_day = {2026, 11, 31, 0}, no_minute = {2026, 11, 30, LEGBARO_DAY_MINUTES};
+    struct call call = file_call(file, DRAW);
+    call_at(&call, &no_day);
+    call_finish(&call, LEGBARO_BAD_TIME, "31 November");
+
+    call = file_call(file, DRAW);
+    call_at(&call, &no_minute);
+    call_finish(&call, LEGBARO_BAD_TIME, "minute 1,440");
+
+    call = file_call(file, DRAW);
+    buffer_free(&call.lent[PLAN]);
+    call.lent[PLAN] = plan_blank();
+    call_finish(&call, LEGBARO_OUTSIDE_WINDOWS, "a plan without a window");
+
+    call = file_call(file, DRAW);
+    plan_window(&call.lent[PLAN], 6, LEGBARO_DAY_MINUTES, 0);
+    call_finish(&call, LEGBARO_OUT_OF_LIMITS, "a plan with minute 1,440");
+}
+
 /* The small inputs on a new file. */
 static void small_calls(struct file *file)
 {
@@ -156,6 +179,7 @@ static void small_calls(struct file *file)
     broken_loads(file);
     broken_batches(file);
     broken_marks(file);
+    broken_hours(file);
     refused(file, JUDGE, LEGBARO_NONE_OPEN, "judge after set-up");
     file_do(file, DRAW);
     refused(file, APPEND, LEGBARO_TOKEN_OPEN, "draw, append");

@@ -2,8 +2,9 @@
 #ifndef RUN_H
 #define RUN_H
 
-/* A buffer as C passes it. */
+/* A buffer and a time as C passes them. */
 #define LENT(role) call->lent[role].bytes, call->lent[role].length
+#define LENT_TIME call->year, call->month, call->day, call->minute
 
 #define RUN(before, behind)                                                                                                    \
     switch (call->kind) {                                                                                                      \
@@ -21,11 +22,13 @@
     case BATCH:                                                                                                                \
         return before##_batch##behind(LENT(MASTER), LENT(CARD), LENT(TABLE), LENT(ITEMS));                                     \
     case DRAW:                                                                                                                 \
-        return before##_draw##behind(LENT(MASTER), LENT(CARD), LENT(MESSAGE));                                                 \
+        return before##_draw##behind(LENT(MASTER), LENT(CARD), LENT(MESSAGE), LENT(PLAN), LENT_TIME);                          \
     case JUDGE:                                                                                                                \
         return before##_judge##behind(LENT(MASTER), LENT(CARD), LENT(REPLY));                                                  \
     case PROVE:                                                                                                                \
         return before##_prove##behind(LENT(MESSAGE), LENT(BLOCKS), LENT(MARKS), LENT(TABLE), LENT(REPLY));                     \
+    case WAIT:                                                                                                                 \
+        return before##_wait##behind(LENT(PLAN), LENT_TIME);                                                                   \
     default:                                                                                                                   \
         return before##_positions##behind(call->r, call->d, call->n);                                                          \
     }

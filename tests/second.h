@@ -3,12 +3,13 @@
  * shares no code with the library, and takes the papers' letters: B bytes in a block, d rows, r positions, t tokens, n blocks.
  *
  *   second_start, second_end                the contexts of libcrypto that all else here uses
- *   second_set_up .. second_positions       the calls, with the arguments of legbaro.h
+ *   second_set_up .. second_wait            the calls, with the arguments of legbaro.h
  *   struct card, second_read_card, second_write_card   the numbers of a card, and their bytes
  *   second_fresh_records                    the records of unused tokens, reckoned from the blocks
  *   struct edit                             what a change hands over
  *   struct item, second_item                an item of a batch
  *   second_token                            the token in a record of a table
+ *   struct when, second_weekday             a date and minute, and the weekday of a date
  *   second_change_fault, second_draw_fault, second_judge_fault   the code of a call that is turned away, 0 for none
  *   second_verdict                          0 or 11
  *   second_half_width, second_permuted, second_permuted_back   the permutation P
@@ -49,6 +50,10 @@ struct edit {
 struct item {
     uint64_t kind, m;
     const uint8_t *old_block, *mark, *new_block; /* no mark, null, in version 1 */
+};
+
+struct when {
+    uint64_t year, month, day, minute;
 };
 
 void second_start(void);
@@ -94,7 +99,9 @@ uint64_t second_batch(const uint8_t *master, size_t master_length,
 
 uint64_t second_draw(const uint8_t *master, size_t master_length,
                      uint8_t *card, size_t card_length,
-                     uint8_t *message, size_t message_length);
+                     uint8_t *message, size_t message_length,
+                     const uint8_t *plan, size_t plan_length,
+                     uint64_t year, uint64_t month, uint64_t day, uint64_t minute);
 
 uint64_t second_judge(const uint8_t *master, size_t master_length,
                       uint8_t *card, size_t card_length,
@@ -107,6 +114,9 @@ uint64_t second_prove(const uint8_t *message, size_t message_length,
                       uint8_t *reply, size_t reply_length);
 
 uint64_t second_positions(uint64_t r, uint64_t planned, uint64_t present);
+
+uint64_t second_wait(const uint8_t *plan, size_t plan_length,
+                     uint64_t year, uint64_t month, uint64_t day, uint64_t minute);
 
 /* The numbers of LEGBARO_CARD_BYTES, whatever they are, and the bytes of numbers. */
 struct card second_read_card(const uint8_t *bytes);
@@ -127,11 +137,15 @@ int second_token(const uint8_t *master, const struct card *c, const uint8_t *tab
 /* The code of a change, code 7 apart, of a draw, and of a judging before its verdict. */
 uint64_t second_change_fault(const struct edit *edit, size_t master_length, const uint8_t *card, size_t card_length,
                              size_t table_length);
-uint64_t second_draw_fault(size_t master_length, const uint8_t *card, size_t card_length, size_t message_length);
+uint64_t second_draw_fault(size_t master_length, const uint8_t *card, size_t card_length, size_t message_length, const uint8_t *plan,
+                           size_t plan_length, const struct when *when);
 uint64_t second_judge_fault(size_t master_length, const uint8_t *card, size_t card_length);
 
 /* The verdict on a reply of any length. */
 uint64_t second_verdict(const uint8_t *master, const struct card *c, const uint8_t *reply, size_t reply_length);
+
+/* The weekday of a date within the limits, 0 for Monday. */
+unsigned second_weekday(const struct when *when);
 
 /* The half width h of d, and P of 0..d-1 under a key, forward and backward. */
 unsigned second_half_width(uint64_t d);

@@ -32,12 +32,21 @@ uint64_t second_set_up(const uint8_t *master, size_t master_length,
 
 /* ---- Draw ---- */
 
-uint64_t second_draw_fault(size_t master_length, const uint8_t *card, size_t card_length, size_t message_length)
+/* "It refuses, before everything else, a date or minute outside these (16), and after 3 a draw outside every window (17)" */
+uint64_t second_draw_fault(size_t master_length, const uint8_t *card, size_t card_length, size_t message_length, const uint8_t *plan,
+                           size_t plan_length, const struct when *when)
 {
-    if (master_length != LEGBARO_MASTER_BYTES || card_length != LEGBARO_CARD_BYTES || message_length != LEGBARO_MESSAGE_BYTES)
+    if (!when_fits(when))
+        return LEGBARO_BAD_TIME;
+    if (master_length != LEGBARO_MASTER_BYTES || card_length != LEGBARO_CARD_BYTES || message_length != LEGBARO_MESSAGE_BYTES ||
+        plan_length != PLAN_BYTES)
         return LEGBARO_WRONG_LENGTH;
     if (card_fault(card))
         return card_fault(card);
+    if (!plan_fits(plan))
+        return LEGBARO_OUT_OF_LIMITS;
+    if (wait_for(plan, when) > 0)
+        return LEGBARO_OUTSIDE_WINDOWS;
     struct card c = second_read_card(card);
     if (c.open != 0)
         return LEGBARO_TOKEN_OPEN;
@@ -46,9 +55,12 @@ uint64_t second_draw_fault(size_t master_length, const uint8_t *card, size_t car
 
 uint64_t second_draw(const uint8_t *master, size_t master_length,
                      uint8_t *card, size_t card_length,
-                     uint8_t *message, size_t message_length)
+                     uint8_t *message, size_t message_length,
+                     const uint8_t *plan, size_t plan_length,
+                     uint64_t year, uint64_t month, uint64_t day, uint64_t minute)
 {
-    uint64_t fault = second_draw_fault(master_length, card, card_length, message_length);
+    struct when when = {year, month, day, minute};
+    uint64_t fault = second_draw_fault(master_length, card, card_length, message_length, plan, plan_length, &when);
     if (fault)
         return fault;
     struct card c = second_read_card(card);

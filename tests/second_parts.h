@@ -8,6 +8,7 @@
  *   second_batches.c       the items of a batch
  *   second_audits.c        set-up, draw, judge, the host's proof
  *   second_plans.c         positions
+ *   second_times.c         the calendar, windows, wait
  */
 #ifndef SECOND_PARTS_H
 #define SECOND_PARTS_H
@@ -86,6 +87,14 @@ const uint8_t *mark_in(uint64_t version, const uint8_t *marks, uint64_t e);
 uint8_t *record_at(uint8_t *table, uint64_t i);
 void seal(uint8_t *record, uint64_t version, uint64_t ctr, uint64_t i, const uint8_t *token);
 int open_record(const uint8_t *record, const struct card *c, uint64_t i, uint8_t *token);
+
+/* ---- second_times.c ---- */
+
+/* Whether there is such a date and minute; whether the minutes of a plan are within the limits; the wait, WEEK for none. */
+enum { DAY = 24 * 60, WEEK = 7 * DAY, WEEKDAYS = 7, PLAN_BYTES = WEEKDAYS * 2 * 2 };
+int when_fits(const struct when *when);
+int plan_fits(const uint8_t *plan);
+uint64_t wait_for(const uint8_t *plan, const struct when *when);
 
 /* ---- second_batches.c ---- */
 

@@ -55,6 +55,7 @@ static void stack_of_calls(uint64_t version)
     expect_small(file_batch_call(&file, 1));
     expect_small(file_batch_call(&file, LEGBARO_MOST_ITEMS));
     expect_small(file_call(&file, DRAW));
+    expect_small(file_call(&file, WAIT));
     file_do(&file, DRAW);
     expect_small(file_call(&file, PROVE));
     expect_small(file_call(&file, JUDGE));

@@ -32,6 +32,9 @@ void test_marks(void);
 /* How many positions to draw of planned rows. */
 void test_plans(void);
 
+/* Every date of a hundred years, the wait for a window, and draws in and outside windows. */
+void test_times(void);
+
 /* Random lists of calls, turned-away ones included, on files of every small and odd size. */
 void test_lists(unsigned lists);
 

@@ -15,6 +15,7 @@ int main(void)
     static const uint8_t marks[D + 2] = {LEGBARO_DELETED, LEGBARO_LIVE, LEGBARO_DELETED};
     static const uint8_t items[2 * LEGBARO_ITEM_BYTES(LEGBARO_WITH_MARKS, B)] = {
         LEGBARO_ITEM_UPDATE, 0, 0, 0, 2, 0, 0, 0, 0, LEGBARO_LIVE, 0, 0, 0, 0, LEGBARO_ITEM_DELETE, 0, 0, 0, 3};
+    static const uint8_t plan[LEGBARO_PLAN_BYTES] = {0, 0, 0, 1};
     uint64_t numbers = 0;
 
     numbers |= legbaro_set_up(master, sizeof master, id, sizeof id, LEGBARO_WITH_MARKS, B, D, R, T, D - 1, blocks, (D - 1) * B, card,
@@ -25,7 +26,8 @@ int main(void)
                               sizeof block);
     numbers |= legbaro_delete(master, sizeof master, card, sizeof card, table, sizeof table, 1, block, sizeof block, &live, 1);
     numbers |= legbaro_batch(master, sizeof master, card, sizeof card, table, sizeof table, items, sizeof items);
-    numbers |= legbaro_draw(master, sizeof master, card, sizeof card, message, sizeof message);
+    numbers |= legbaro_wait(plan, sizeof plan, 2026, 11, 16, 0);
+    numbers |= legbaro_draw(master, sizeof master, card, sizeof card, message, sizeof message, plan, sizeof plan, 2026, 11, 16, 0);
     numbers |= legbaro_prove(message, sizeof message, blocks, sizeof blocks, marks, sizeof marks, table, sizeof table, reply, sizeof reply);
     numbers |= legbaro_judge(master, sizeof master, card, sizeof card, reply, sizeof reply);
     numbers |= LEGBARO_CODE(legbaro_positions(R, D, D - 1));

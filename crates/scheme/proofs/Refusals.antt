@@ -1,5 +1,5 @@
 -- Each refusal's small input, and pairs of faults in the order of "Turned away", computed over the stand-ins. Assumes nothing.
---   small-inputs, loads, batches, marks, positions               the column "Small input", the limits that moved, and calls that are accepted
+--   small-inputs, loads, batches, marks, hours, positions        the column "Small input", the limits that moved, and calls that are accepted
 --   lowest                                                       the token that code 7 names
 --   in-order, loads-in-order, batches-in-order, marks-in-order   pairs of faults
 use Prim.Native.Nat.{ℕ, zero, suc, _+_, _*_}
@@ -7,8 +7,10 @@ use mathlib.Core.Path.{_≡_, refl}
 use mathlib.Core.List.{List, [], _∷_, _++_}
 use lib.ListN.{set, replicate}
 use Rattle.octets.specs.Octets.{le, be, ofLe, ofBe, same, xors}
+use Rattle.hours.specs.Calendar.{leap, monthDays, timeFits, yearDays, daysOfYears, daysOfMonths, dayNumber, weekday}
+use Rattle.hours.specs.Hours.{startOf, endOf, allBelow, planFits, own, over, allowed, allowedAt}
 use Rattle.scheme.specs.Ladder.{first}
-use Rattle.scheme.specs.Lists.{recordsFrom, xorBelow}
+use Rattle.scheme.specs.Lists.{joined, recordsFrom, xorBelow}
 use Rattle.scheme.specs.Marks.{versionFits, marksIn, live, alike, marksFit}
 use Rattle.scheme.specs.Records.{cardBytes, readCard, shapeFits, tokenFits, blocksFit, cardFits, headFits, headKnown, clearBytes, nonceBytes, recordAt}
 use Rattle.scheme.specs.Records.{messageBytes, readMessage, messageFits}
@@ -18,7 +20,8 @@ use Rattle.scheme.specs.Table.{sealedRecord, bodyIn, tokenIn, firstBad}
 use Rattle.scheme.specs.Batches.{itemSize, readItem, itemsFrom, itemsOf, kindsFit, risingFrom, rising, batchFits, itemMarksFit, numbersFit}
 use Rattle.scheme.specs.Calls.{setUpCode, unusedBad, changeCode, updateCode, deleteCode, appendCode, loadCode, batchCode, positionsFor, positionsCode, drawCode}
 use Rattle.scheme.specs.Calls.{messageFor, drawMessage, judgeFault, judgeCode, proveCode}
-use Rattle.scheme.proofs.Computed.{standIn, key, id, cardIn, cardOf, cardTwo, unknown, item, markedItem, tableIn, tableOf, flipped, bothFlipped, blank, drawnIn, drawn}
+use Rattle.scheme.proofs.Computed.{standIn, key, id, cardIn, cardOf, cardTwo, unknown, item, markedItem, tableIn, tableOf, flipped, bothFlipped, always, fridayNight, never}
+use Rattle.scheme.proofs.Computed.{january, saturday, blank, drawnIn, drawn}
 
 pub small-inputs : (updateCode standIn key (replicate 42 0) (tableOf 0) 1 (5 ∷ []) [] (9 ∷ []) ≡ 1)
     × (updateCode standIn key (unknown (cardOf 1 2 0 1 0)) (tableOf 0) 1 (5 ∷ []) [] (9 ∷ []) ≡ 2)
@@ -26,7 +29,7 @@ pub small-inputs : (updateCode standIn key (replicate 42 0) (tableOf 0) 1 (5 ∷
     × (updateCode standIn key (cardOf 1 2 0 1 0) (tableOf 0) 0 (5 ∷ []) [] (9 ∷ []) ≡ 4)
     × (updateCode standIn key (cardOf 1 2 0 1 0) (tableOf 0) 3 (5 ∷ []) [] (9 ∷ []) ≡ 4)
     × (appendCode standIn key (cardOf 1 16777216 0 1 0) (tableOf 0) (9 ∷ []) ≡ 5)
-    × (drawCode standIn key (cardOf 1 2 0 3 0) blank ≡ 6)
+    × (drawCode standIn key (cardOf 1 2 0 3 0) blank always saturday ≡ 6)
     × (updateCode standIn key (cardOf 1 2 0 1 0) (flipped 0) 1 (5 ∷ []) [] (9 ∷ []) ≡ 7 + 256 * 2)
     × (deleteCode standIn key (cardOf 1 2 0 1 0) (bothFlipped 0) 1 (5 ∷ []) [] ≡ 7 + 256 * 1)
     × (appendCode standIn key (cardOf 1 2 0 2 1) (tableOf 0) (9 ∷ []) ≡ 8)
@@ -36,7 +39,7 @@ pub small-inputs : (updateCode standIn key (replicate 42 0) (tableOf 0) 1 (5 ∷
     × (deleteCode standIn key (cardOf 1 2 0 1 0) (tableOf 0) 2 (6 ∷ []) [] ≡ 0)
     × (appendCode standIn key (cardOf 1 2 0 1 0) (tableOf 0) (9 ∷ []) ≡ 0)
     × (updateCode standIn key (cardOf 1 2 0 3 0) (bothFlipped 0) 1 (5 ∷ []) [] (9 ∷ []) ≡ 0)
-unfolding be le ofBe ofLe same xors first xorBelow recordsFrom cardBytes readCard shapeFits tokenFits blocksFit cardFits headFits headKnown versionFits marksIn live alike marksFit clearBytes
+unfolding leap monthDays timeFits yearDays daysOfYears daysOfMonths dayNumber weekday startOf endOf allBelow planFits own over allowed allowedAt joined be le ofBe ofLe same xors first xorBelow recordsFrom cardBytes readCard shapeFits tokenFits blocksFit cardFits headFits headKnown versionFits marksIn live alike marksFit clearBytes
     nonceBytes recordAt columnsOf blockIn blockAt indexOf keyW keyZ keyK drawKey hashKey blockHash columnHash drawnRow rowDigest digest token sealedRecord
     bodyIn tokenIn firstBad unusedBad setUpCode changeCode drawCode judgeFault judgeCode
 small-inputs = (refl, refl, refl, refl, refl, refl, refl, refl, refl, refl, refl, refl, refl, refl, refl, refl)
@@ -67,10 +70,10 @@ pub in-order : (updateCode standIn [] (unknown (cardOf 1 2 0 1 0)) (tableOf 0) 1
     × (updateCode standIn key (cardOf 1 2 4294967295 1 0) (flipped 4294967295) 1 (5 ∷ []) [] (9 ∷ []) ≡ 10)
     × (appendCode standIn key (cardOf 1 16777216 0 2 1) (tableOf 0) (9 ∷ []) ≡ 8)
     × (appendCode standIn key (cardOf 1 16777216 4294967295 1 0) (tableOf 4294967295) (9 ∷ []) ≡ 5)
-    × (drawCode standIn key (unknown (cardOf 1 2 0 1 0)) [] ≡ 1)
-    × (drawCode standIn key (unknown (cardOf 3 2 0 1 0)) blank ≡ 2)
-    × (drawCode standIn key (cardOf 3 2 0 2 1) blank ≡ 3)
-    × (drawCode standIn key (cardOf 1 2 0 3 2) blank ≡ 8)
+    × (drawCode standIn key (unknown (cardOf 1 2 0 1 0)) [] always saturday ≡ 1)
+    × (drawCode standIn key (unknown (cardOf 3 2 0 1 0)) blank always saturday ≡ 2)
+    × (drawCode standIn key (cardOf 3 2 0 2 1) blank always saturday ≡ 3)
+    × (drawCode standIn key (cardOf 1 2 0 3 2) blank always saturday ≡ 8)
     × (judgeCode standIn key (unknown (42 ∷ cardOf 1 2 0 1 0)) [] ≡ 1)
     × (judgeCode standIn key (unknown (cardOf 3 2 0 1 0)) [] ≡ 2)
     × (judgeCode standIn key (cardOf 3 2 0 1 0) [] ≡ 3)
@@ -82,7 +85,7 @@ pub in-order : (updateCode standIn [] (unknown (cardOf 1 2 0 1 0)) (tableOf 0) 1
     × (proveCode standIn (set drawn 22 3) [] [] [] (replicate 110 0) ≡ 3)
     × (proveCode standIn drawn (5 ∷ 6 ∷ []) [] (replicate 62 0) (replicate 110 0) ≡ 1)
     × (proveCode standIn drawn (5 ∷ 6 ∷ []) [] (replicate 63 0) (replicate 110 0) ≡ 0)
-unfolding be le ofBe ofLe same xors first xorBelow recordsFrom cardBytes readCard shapeFits tokenFits blocksFit cardFits headFits headKnown versionFits marksIn live alike marksFit clearBytes
+unfolding leap monthDays timeFits yearDays daysOfYears daysOfMonths dayNumber weekday startOf endOf allBelow planFits own over allowed allowedAt joined be le ofBe ofLe same xors first xorBelow recordsFrom cardBytes readCard shapeFits tokenFits blocksFit cardFits headFits headKnown versionFits marksIn live alike marksFit clearBytes
     nonceBytes recordAt messageBytes readMessage messageFits columnsOf blockIn blockAt indexOf keyW keyZ keyK drawKey hashKey blockHash columnHash
     drawnRow rowDigest digest token sealedRecord bodyIn tokenIn firstBad unusedBad setUpCode changeCode drawCode messageFor drawMessage judgeFault
     judgeCode proveCode
@@ -106,7 +109,7 @@ pub loads : (loadCode standIn key (cardOf 1 2 0 1 0) (tableOf 0) [] ≡ 12)
     × (setUpCode standIn key id 1 1 5 5 1 16777217 [] (replicate 43 0) (replicate 63 0) ≡ 3)
     × (proveCode standIn (set drawn 26 1) (5 ∷ []) [] (replicate 63 0) (replicate 110 0) ≡ 0)
     × (proveCode standIn (set drawn 26 0) [] [] (replicate 63 0) (replicate 110 0) ≡ 3)
-unfolding be le ofBe ofLe same xors first xorBelow recordsFrom cardBytes readCard shapeFits tokenFits blocksFit cardFits headFits headKnown versionFits marksIn live alike marksFit clearBytes
+unfolding leap monthDays timeFits yearDays daysOfYears daysOfMonths dayNumber weekday startOf endOf allBelow planFits own over allowed allowedAt joined be le ofBe ofLe same xors first xorBelow recordsFrom cardBytes readCard shapeFits tokenFits blocksFit cardFits headFits headKnown versionFits marksIn live alike marksFit clearBytes
     nonceBytes recordAt messageBytes readMessage messageFits columnsOf blockIn blockAt indexOf keyW keyZ keyK drawKey hashKey blockHash columnHash
     drawnRow rowDigest digest token sealedRecord bodyIn tokenIn firstBad unusedBad setUpCode changeCode drawCode messageFor drawMessage judgeFault
     judgeCode proveCode
@@ -192,8 +195,8 @@ pub marks : (setUpCode standIn key id 0 1 5 5 1 2 (8 ∷ 9 ∷ []) (replicate 43
     × (proveCode standIn (drawnIn 2) (5 ∷ 6 ∷ []) (0 ∷ 2 ∷ []) (replicate 63 0) (replicate 110 0) ≡ 15)
     × (proveCode standIn (drawnIn 2) (5 ∷ 6 ∷ []) [] (replicate 63 0) (replicate 110 0) ≡ 1)
     × (proveCode standIn drawn (5 ∷ 6 ∷ []) (0 ∷ 0 ∷ []) (replicate 63 0) (replicate 110 0) ≡ 1)
-    × (drawCode standIn key (cardTwo 1 2 0 1 0) blank ≡ 0)
-unfolding be le ofBe ofLe same xors first xorBelow recordsFrom cardBytes readCard shapeFits tokenFits blocksFit cardFits headFits headKnown versionFits marksIn live alike marksFit clearBytes
+    × (drawCode standIn key (cardTwo 1 2 0 1 0) blank always saturday ≡ 0)
+unfolding leap monthDays timeFits yearDays daysOfYears daysOfMonths dayNumber weekday startOf endOf allBelow planFits own over allowed allowedAt joined be le ofBe ofLe same xors first xorBelow recordsFrom cardBytes readCard shapeFits tokenFits blocksFit cardFits headFits headKnown versionFits marksIn live alike marksFit clearBytes
     nonceBytes recordAt messageBytes readMessage messageFits columnsOf blockIn blockAt indexOf keyW keyZ keyK drawKey hashKey blockHash columnHash drawnRow rowDigest digest token sealedRecord
     bodyIn tokenIn firstBad unusedBad setUpCode changeCode drawCode messageFor drawMessage judgeFault judgeCode proveCode itemSize readItem itemsFrom itemsOf kindsFit risingFrom rising batchFits itemMarksFit numbersFit
 marks = (refl, refl, refl, refl, refl, refl, refl, refl, refl, refl, refl, refl, refl, refl, refl, refl, refl, refl, refl, refl, refl, refl, refl, refl, refl, refl)
@@ -210,10 +213,34 @@ pub marks-in-order : (setUpCode standIn [] id 0 1 5 5 1 2 (8 ∷ 9 ∷ []) (repl
     × (batchCode standIn key (cardTwo 1 2 0 1 0) (tableIn 2 0) (markedItem 1 0 5 2 9) ≡ 15)
     × (proveCode standIn (drawnIn 2) (5 ∷ 6 ∷ []) (0 ∷ 2 ∷ []) (replicate 62 0) (replicate 110 0) ≡ 1)
     × (proveCode standIn (set (drawnIn 2) 22 3) (5 ∷ 6 ∷ []) (0 ∷ 2 ∷ []) (replicate 63 0) (replicate 110 0) ≡ 3)
-unfolding be le ofBe ofLe same xors first xorBelow recordsFrom cardBytes readCard shapeFits tokenFits blocksFit cardFits headFits headKnown versionFits marksIn live alike marksFit clearBytes
+unfolding leap monthDays timeFits yearDays daysOfYears daysOfMonths dayNumber weekday startOf endOf allBelow planFits own over allowed allowedAt joined be le ofBe ofLe same xors first xorBelow recordsFrom cardBytes readCard shapeFits tokenFits blocksFit cardFits headFits headKnown versionFits marksIn live alike marksFit clearBytes
     nonceBytes recordAt messageBytes readMessage messageFits columnsOf blockIn blockAt indexOf keyW keyZ keyK drawKey hashKey blockHash columnHash drawnRow rowDigest digest token sealedRecord
     bodyIn tokenIn firstBad unusedBad setUpCode changeCode drawCode messageFor drawMessage judgeFault judgeCode proveCode itemSize readItem itemsFrom itemsOf kindsFit risingFrom rising batchFits itemMarksFit numbersFit
 marks-in-order = (refl, refl, refl, refl, refl, refl, refl, refl, refl, refl, refl)
+
+-- #106: the night from Friday to Saturday; "before everything else, a date or minute outside these (16)"; "Plan minutes above 1,439 are code 3"; 17
+pub hours : (drawCode standIn key (cardOf 1 2 0 1 0) blank fridayNight saturday ≡ 0)
+    × (drawCode standIn key (cardOf 1 2 0 1 0) blank fridayNight (january 1 359) ≡ 0)
+    × (drawCode standIn key (cardOf 1 2 0 1 0) blank fridayNight (january 1 360) ≡ 17)
+    × (drawCode standIn key (cardOf 1 2 0 1 0) blank fridayNight (january 7 1319) ≡ 17)
+    × (drawCode standIn key (cardOf 1 2 0 1 0) blank fridayNight (january 7 1320) ≡ 0)
+    × (drawCode standIn key (cardOf 1 2 0 1 0) blank fridayNight (january 7 1439) ≡ 0)
+    × (drawCode standIn key (cardOf 1 2 0 1 0) blank fridayNight (january 2 0) ≡ 17)
+    × (drawCode standIn key (cardOf 1 2 0 1 0) blank never saturday ≡ 17)
+    × (drawCode standIn key (cardOf 1 2 0 1 0) blank always (january 1 1440) ≡ 16)
+    × (drawCode standIn key (cardOf 1 2 0 1 0) blank always (january 32 0) ≡ 16)
+    × (drawCode standIn key (cardOf 1 2 0 1 0) blank always (january 0 0) ≡ 16)
+    × (drawCode standIn key (cardOf 1 2 0 1 0) blank (0 ∷ always) saturday ≡ 1)
+    × (drawCode standIn key (cardOf 1 2 0 1 0) blank (set always 27 160) saturday ≡ 3)
+    × (drawCode standIn key (cardOf 1 2 0 1 0) [] always (january 0 0) ≡ 16)
+    × (drawCode standIn key (unknown (cardOf 1 2 0 1 0)) blank [] saturday ≡ 1)
+    × (drawCode standIn key (unknown (cardOf 1 2 0 1 0)) blank (set always 27 160) saturday ≡ 2)
+    × (drawCode standIn key (cardOf 3 2 0 1 0) blank never saturday ≡ 3)
+    × (drawCode standIn key (cardOf 1 2 0 1 0) blank (set never 27 160) saturday ≡ 17)
+    × (drawCode standIn key (cardOf 1 2 0 2 1) blank never saturday ≡ 17)
+    × (drawCode standIn key (cardOf 1 2 0 3 0) blank never saturday ≡ 17)
+unfolding leap monthDays timeFits yearDays daysOfYears daysOfMonths dayNumber weekday startOf endOf allBelow planFits own over allowed allowedAt joined be le ofBe ofLe first cardBytes readCard shapeFits tokenFits blocksFit cardFits headKnown versionFits drawCode
+hours = (refl, refl, refl, refl, refl, refl, refl, refl, refl, refl, refl, refl, refl, refl, refl, refl, refl, refl, refl, refl)
 
 -- "positions as r × planned rows / present blocks, rounded up"; "r is at most 512 and the present blocks, and these at most the planned rows, else 3"; "after 3,
 -- more than 512 positions (13)"

@@ -8,6 +8,8 @@ use mathlib.Core.Path.{_≡_, refl}
 use mathlib.Core.List.{List, [], _∷_, _++_}
 use lib.ListN.{length, replicate}
 use Rattle.octets.specs.Octets.{le, be, ofLe, ofBe, put, same, xors}
+use Rattle.hours.specs.Calendar.{leap, monthDays, timeFits, yearDays, daysOfYears, daysOfMonths, dayNumber, weekday}
+use Rattle.hours.specs.Hours.{startOf, endOf, allBelow, planFits, own, over, allowed, allowedAt}
 use Rattle.scheme.specs.Ladder.{first}
 use Rattle.scheme.specs.Lists.{joined, pieces, recordsFrom, xorBelow}
 use Rattle.scheme.specs.Marks.{versionFits, marksIn, live, deleted, alike, marksFit}
@@ -22,7 +24,7 @@ use Rattle.scheme.specs.Calls.{changeCard, changeTable, drawCode, drawCa
 use Rattle.scheme.specs.Book.{Call, change, draw, judge, Lent, Ran, run, started, bookCard, withBlocks, withTurn, freshToken, freshRecord}
 use Rattle.scheme.specs.Book.{bookTable, bookFault, bookAfter, Honest, corrected}
 use Rattle.scheme.proofs.SinglyTheorem.{calls}
-use Rattle.scheme.proofs.Computed.{standIn, key, id, item, markedItem, blank}
+use Rattle.scheme.proofs.Computed.{standIn, key, id, item, markedItem, always, never, saturday, blank}
 
 -- lent the key
 abbrev lent : Call → Lent
@@ -30,7 +32,7 @@ lent x = record { master = key; call = x }
 
 -- after a set-up in version 2 with B 1, d 2, r 1, t 1: judge with nothing open; update block 0; update by a block of two bytes; update with a master of 31 bytes;
 -- update, append and delete; delete block 4; load nothing; load two blocks; a batch of no bytes; update block 2 and delete block 4 in a batch;
--- draw to a buffer of 90 bytes; draw; draw and append while a token is open; judge a reply of no bytes; "t 1, one draw judged, draw"; append with no token left
+-- draw to a buffer of 90 bytes; draw outside every window; draw; draw and append while a token is open; judge a reply of no bytes; "t 1, one draw judged, draw"; append with no token left
 abbrev weekCalls : List Lent
 weekCalls =
     lent (judge []) ∷ lent (change (update 0 (5 ∷ []) (0 ∷ []) (9 ∷ []))) ∷ lent (change (update 1 (5 ∷ []) (0 ∷ []) (9 ∷ 9 ∷ [])))
@@ -38,7 +40,7 @@ weekCalls =
     ∷ lent (change (update 1 (5 ∷ []) (0 ∷ []) (9 ∷ []))) ∷ lent (change (append (8 ∷ []))) ∷ lent (change (delete 3 (8 ∷ []) (0 ∷ []))) ∷ lent (change (delete 4 (8 ∷ []) (0 ∷ [])))
     ∷ lent (change (load [])) ∷ lent (change (load (3 ∷ 4 ∷ [])))
     ∷ lent (change (batch [])) ∷ lent (change (batch (markedItem 1 2 6 0 7 ++ markedItem 2 4 3 0 9)))
-    ∷ lent (draw (replicate 90 0)) ∷ lent (draw blank) ∷ lent (draw blank) ∷ lent (change (append (8 ∷ []))) ∷ lent (judge []) ∷ lent (draw blank)
+    ∷ lent (draw (replicate 90 0) always saturday) ∷ lent (draw blank never saturday) ∷ lent (draw blank always saturday) ∷ lent (draw blank always saturday) ∷ lent (change (append (8 ∷ []))) ∷ lent (judge []) ∷ lent (draw blank always saturday)
     ∷ lent (change (append (3 ∷ []))) ∷ []
 
 pub week : _≡_ {A = Ran}
@@ -46,13 +48,13 @@ pub week : _≡_ {A = Ran}
     (setUpCard standIn key id 2 1 2 1 1 2 (5 ∷ 6 ∷ []) (replicate 43 0) (replicate 63 0))
     (setUpTable standIn key id 2 1 2 1 1 2 (5 ∷ 6 ∷ []) (replicate 43 0) (replicate 63 0)))
     (record {
-      numbers = 9 ∷ 4 ∷ 1 ∷ 1 ∷ 0 ∷ 0 ∷ 0 ∷ 4 ∷ 12 ∷ 0 ∷ 14 ∷ 0 ∷ 1 ∷ 0 ∷ 8 ∷ 8 ∷ 11 ∷ 6 ∷ 0 ∷ [];
+      numbers = 9 ∷ 4 ∷ 1 ∷ 1 ∷ 0 ∷ 0 ∷ 0 ∷ 4 ∷ 12 ∷ 0 ∷ 14 ∷ 0 ∷ 1 ∷ 17 ∷ 0 ∷ 8 ∷ 8 ∷ 11 ∷ 6 ∷ 0 ∷ [];
       card =
           0 ∷ 41 ∷ 2 ∷ 1 ∷ 2 ∷ 3 ∷ 4 ∷ 5 ∷ 6 ∷ 7 ∷ 8 ∷ 0 ∷ 1 ∷ 0 ∷ 0 ∷ 0 ∷ 2 ∷ 0 ∷ 1 ∷ 0 ∷ 0 ∷ 0 ∷ 1 ∷ 0 ∷ 0 ∷ 0 ∷ 6 ∷ 0 ∷ 0 ∷ 0 ∷ 0 ∷ 0 ∷ 0 ∷ 0 ∷ 6
           ∷ 0 ∷ 0 ∷ 0 ∷ 2 ∷ 0 ∷ 0 ∷ 0 ∷ 0 ∷ [];
       table = sealedRecord standIn (keyK standIn key id) 2 5 1 (token standIn key id 2 1 1 ((0 ∷ 9 ∷ []) ∷ (0 ∷ 7 ∷ []) ∷ (1 ∷ 0 ∷ []) ∷ (1 ∷ 0 ∷ []) ∷ (0 ∷ 4 ∷ []) ∷ []));
     })
-unfolding run be le ofBe ofLe put same xors first joined pieces xorBelow recordsFrom cardBytes readCard shapeFits tokenFits blocksFit cardFits headFits headKnown versionFits marksIn live deleted alike marksFit clearBytes
+unfolding leap monthDays timeFits yearDays daysOfYears daysOfMonths dayNumber weekday startOf endOf allBelow planFits own over allowed allowedAt run be le ofBe ofLe put same xors first joined pieces xorBelow recordsFrom cardBytes readCard shapeFits tokenFits blocksFit cardFits headFits headKnown versionFits marksIn live deleted alike marksFit clearBytes
     nonceBytes recordAt rowOf columnOf blockIn columnsOf blockAt indexOf keyW keyZ keyK drawKey hashKey blockHash columnHash drawnRow positionOf rowDigest digest token
     addedFrom loaded itemSize readItem itemsFrom itemsOf kindsFit risingFrom rising batchFits itemMarksFit numbersFit itemBlock batchWork mixed changedDigest workedDigest sealedRecord bodyIn tokenIn firstBad resealedRecord reseal causeNumber verdictOf cause verdict changedCard
     turnedCard setUpCode setUpCard setUpTable unusedBad changeCode changeCard changeTable drawCode drawCard judgeFault judgeCode judgeCard
@@ -60,7 +62,7 @@ week = refl
 
 -- the list theorem speaks of this list
 pub week-honest : (setUpCode standIn key id 2 1 2 1 1 2 (5 ∷ 6 ∷ []) (replicate 43 0) (replicate 63 0) ≡ 0) × Honest standIn weekCalls (started key id 2 1 2 1 1 2 (5 ∷ 6 ∷ []))
-unfolding be le ofBe ofLe put same xors first joined pieces xorBelow recordsFrom cardBytes readCard shapeFits tokenFits blocksFit cardFits headFits headKnown versionFits marksIn live deleted alike marksFit clearBytes nonceBytes
+unfolding leap monthDays timeFits yearDays daysOfYears daysOfMonths dayNumber weekday startOf endOf allBelow planFits own over allowed allowedAt be le ofBe ofLe put same xors first joined pieces xorBelow recordsFrom cardBytes readCard shapeFits tokenFits blocksFit cardFits headFits headKnown versionFits marksIn live deleted alike marksFit clearBytes nonceBytes
     recordAt rowOf columnOf blockIn columnsOf blockAt indexOf keyW keyZ keyK drawKey hashKey blockHash columnHash drawnRow positionOf rowDigest digest token addedFrom
     loaded itemSize readItem itemsFrom itemsOf kindsFit risingFrom rising batchFits itemMarksFit numbersFit itemBlock batchWork mixed changedDigest workedDigest sealedRecord bodyIn tokenIn firstBad resealedRecord reseal causeNumber verdictOf cause verdict changedCard turnedCard
     setUpCode setUpCard setUpTable unusedBad changeCode changeCard changeTable drawCode drawCard judgeFault judgeCode judgeCard started bookCard withBlocks withTurn
@@ -101,7 +103,7 @@ week-honest =
                           (
                             own,
                             λ e. tt,
-                            (own, λ e. (refl, (refl, tt)), (own, λ e. tt, (own, λ e. tt, (own, λ e. tt, (own, λ e. tt, (own, λ e. tt, (own, λ e. tt, (own, λ e. tt, tt)))))))),
+                            (own, λ e. (refl, (refl, tt)), (own, λ e. tt, (own, λ e. tt, (own, λ e. tt, (own, λ e. tt, (own, λ e. tt, (own, λ e. tt, (own, λ e. tt, (own, λ e. tt, tt))))))))),
                           ),
                         ),
                       ),
