@@ -114,7 +114,7 @@ void remove_folders(const char *name)
 {
     static const char *const names[] = {"owner/master", "owner/card",         "owner/table", "owner/plan", "owner",
                                         "host/blocks",  "host/blocks-before", "host/table",  "host/table-before",
-                                        "host/message", "host/reply",         "host/marks",  "host"};
+                                        "host/message", "host/reply",         "host/reply-whole", "host/marks",  "host"};
     for (size_t i = 0; i < sizeof names / sizeof *names; i++)
         remove(names[i]);
     if (chdir("..") != 0 || rmdir(name) != 0)

@@ -63,7 +63,7 @@ static void audits(void)
     resize_file("host/blocks", (size_t)A_WEEK * BAYS);
     resize_file("host/blocks", (size_t)ROWS * BAYS);
     draw();
-    prove_and_judge(LEGBARO_REJECTED);
+    prove_and_reject(LEGBARO_CAUSE_DIGEST);
 }
 
 void new_centre(void)

@@ -274,6 +274,16 @@ uint64_t owner_waits(const struct moment *now)
     return result;
 }
 
+uint64_t owner_asks_cause(void)
+{
+    struct bytes master = read_file("owner/master"), card = read_file("owner/card"), reply = read_file("host/reply");
+    uint64_t result = legbaro_cause(LENT(master), LENT(card), LENT(reply));
+    free(master.at);
+    free(card.at);
+    free(reply.at);
+    return result;
+}
+
 uint64_t owner_judges(void)
 {
     struct bytes master = read_file("owner/master"), card = read_file("owner/card"), reply = read_file("host/reply");

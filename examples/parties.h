@@ -50,7 +50,8 @@ uint64_t owner_corrects(const struct correction *corrections, size_t count);
 uint64_t owner_draws(const struct moment *now);
 uint64_t owner_waits(const struct moment *now);
 
-/* Judges the reply that the host sent. */
+/* Asks why the reply that the host sent would be rejected; judges it. */
+uint64_t owner_asks_cause(void);
 uint64_t owner_judges(void);
 
 /* Answers the message. The host has nothing but the message, its blocks, their marks and its table. */

@@ -82,8 +82,44 @@ void draw(void)
     draw_at(evening, LEGBARO_OK);
 }
 
-void prove_and_judge(uint64_t verdict)
+void tell_cause(uint64_t expected)
+{
+    static const char *const causes[] = {
+        [0] = "none: judge would accept the reply",
+        [LEGBARO_CAUSE_SIZE] = "wrong size: it was cut on the way, send it again",
+        [LEGBARO_CAUSE_HEADER] = "wrong header: use this file's version",
+        [LEGBARO_CAUSE_NAME] = "another file or token: answer the last message",
+        [LEGBARO_CAUSE_COUNTER] = "another counter: use the table sent last",
+        [LEGBARO_CAUSE_TAG] = "bad tag: the table is damaged, use a copy",
+        [LEGBARO_CAUSE_DIGEST] = "other digest: a block or a mark is not the file's",
+    };
+    uint64_t result = owner_asks_cause(), cause = LEGBARO_NUMBER(result);
+    printf("  %-56s %s\n", "the owner asks for the cause, and tells the host:", causes[cause]);
+    if (result != LEGBARO_OK + 256 * expected) {
+        printf("    expected: %s\n", causes[expected]);
+        others++;
+    }
+}
+
+void prove(void)
 {
     tell("the host proves from message, blocks and table:", host_proves(), LEGBARO_OK);
+}
+
+void judge(uint64_t verdict)
+{
     tell("the owner judges the reply:", owner_judges(), verdict);
+}
+
+void prove_and_judge(uint64_t verdict)
+{
+    prove();
+    judge(verdict);
+}
+
+void prove_and_reject(uint64_t cause)
+{
+    prove();
+    tell_cause(cause);
+    judge(LEGBARO_REJECTED);
 }

@@ -9,6 +9,9 @@ enum { TICKS_A_DAY = 24, A_WEEK = 7 * TICKS_A_DAY };
 /* The first car park's corrections in one batch: morning.c. */
 void morning(void);
 
+/* A reply of the first car park's host that is cut on the way: cut.c. */
+void cut_reply(void);
+
 /* A second car park, with a month in one load: month.c. */
 void new_centre(void);
 
@@ -26,9 +29,16 @@ int surprises(void);
 void tell_files(const char *party);
 void tell_card(void);
 
-/* The first step of an audit, in closing hours or at a time with the code that is expected; and the other two with the verdict that is. */
+/* The first step of an audit, in closing hours or at a time with the code that is expected; and the other two with the verdict that is
+ * expected, together or each alone, or for a reply that is rejected with its cause. */
 void draw(void);
 void draw_at(struct moment now, uint64_t code);
+void prove(void);
+void judge(uint64_t verdict);
 void prove_and_judge(uint64_t verdict);
+void prove_and_reject(uint64_t cause);
+
+/* Asks for the cause of a rejection, and says what the planner tells the host; notes whether it is the one expected. */
+void tell_cause(uint64_t expected);
 
 #endif

@@ -13,7 +13,7 @@
 #include <unistd.h>
 
 /* Every audit draws all rows here, so it looks at every block. In a large file a few hundred of the rows are enough. */
-enum { BAYS = 96, ROWS = A_WEEK, POSITIONS = ROWS, TOKENS = 5 };
+enum { BAYS = 96, ROWS = A_WEEK, POSITIONS = ROWS, TOKENS = 6 };
 
 /* ---- The week ---- */
 
@@ -138,7 +138,7 @@ static void audit_lost_block(void)
     tell("the host proves from the blocks it has left:", host_proves(), LEGBARO_WRONG_LENGTH);
     resize_file("host/blocks", whole);
     puts("  The host says nothing and puts zero bytes where the block was.");
-    prove_and_judge(LEGBARO_REJECTED);
+    prove_and_reject(LEGBARO_CAUSE_DIGEST);
     copy_file("host/blocks-before", "host/blocks");
 }
 
@@ -148,7 +148,7 @@ static void audit_stale_table(void)
     puts("  The host has every block again, but the table from before Sunday's last sample.");
     copy_file("host/table-before", "host/table");
     draw();
-    prove_and_judge(LEGBARO_REJECTED);
+    prove_and_reject(LEGBARO_CAUSE_COUNTER);
     tell_card();
 }
 
@@ -160,6 +160,7 @@ static void first_centre(void)
     audit_sound_host();
     bad_record();
     morning();
+    cut_reply();
     audit_lost_block();
     audit_stale_table();
     remove_folders("first");

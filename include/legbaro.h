@@ -32,7 +32,7 @@
  * plan is meant in. The library has no clock, and takes the time as it is told.
  *
  * RESULT. Every call returns code + 256 * number. The code is 0 for an accepted call. The number is 0 but in two cases: with
- * LEGBARO_BAD_RECORD it is a token, and from legbaro_positions and legbaro_wait, with code 0, it is what was asked for.
+ * LEGBARO_BAD_RECORD it is a token, and from legbaro_positions, legbaro_wait and legbaro_cause, with code 0, it is what was asked for.
  * A call that is turned away (any code but 0 and LEGBARO_REJECTED) leaves every buffer as it was. The codes of each call stand
  * below in the order in which they are tested: of several faults the first is told.
  *
@@ -101,7 +101,7 @@ extern "C" {
 #define LEGBARO_NO_TOKEN_LEFT 6       /* draw after the last token */
 #define LEGBARO_BAD_RECORD 7          /* an unused record does not open; the lowest such token comes with the code */
 #define LEGBARO_TOKEN_OPEN 8          /* change or draw while a drawn token is not judged */
-#define LEGBARO_NONE_OPEN 9           /* judge while no token is drawn */
+#define LEGBARO_NONE_OPEN 9           /* judge, or cause, while no token is drawn */
 #define LEGBARO_COUNTER_AT_MOST 10    /* change with the counter at LEGBARO_MOST_COUNTER */
 #define LEGBARO_REJECTED 11           /* judge: the reply does not prove possession */
 #define LEGBARO_NOT_WHOLE_BLOCKS 12   /* load of no bytes, or of a length that B does not divide */
@@ -115,6 +115,14 @@ extern "C" {
 #define LEGBARO_CODE(result) ((result) % 256)
 #define LEGBARO_NUMBER(result) ((result) / 256)
 #define LEGBARO_TOKEN(result) LEGBARO_NUMBER(result)
+
+/* Why judge rejects a reply: the number that legbaro_cause gives, 0 for a reply that judge accepts. */
+#define LEGBARO_CAUSE_SIZE 1    /* the reply has not LEGBARO_REPLY_BYTES */
+#define LEGBARO_CAUSE_HEADER 2  /* the length field or the version of the reply, or of the record in it, is wrong */
+#define LEGBARO_CAUSE_NAME 3    /* another file id, or another token in the reply or in the record, than was drawn */
+#define LEGBARO_CAUSE_COUNTER 4 /* the record was sealed at another counter than the card's */
+#define LEGBARO_CAUSE_TAG 5     /* the record's tag does not hold */
+#define LEGBARO_CAUSE_DIGEST 6  /* the digest is not the token that the record holds */
 
 /*
  * A card, for who wants to look into one: big-endian numbers, each at its offset.
@@ -307,10 +315,38 @@ uint64_t legbaro_wait(const uint8_t *plan, size_t plan_length,
  *   card       LEGBARO_CARD_BYTES, written by either verdict: no token is open
  *   reply      what the host sent, of any length
  *
- * Codes: 1 (master, card), 2, 3, 9, then the verdict 0 or 11.
+ * Codes: 1 (master, card), 2, 3, 9, then the verdict 0 or 11. legbaro_cause, asked before, tells why a reply is rejected.
  */
 uint64_t legbaro_judge(const uint8_t *master, size_t master_length,
                        uint8_t *card, size_t card_length,
+                       const uint8_t *reply, size_t reply_length);
+
+/*
+ * Cause, the owner's: why judge would reject a reply. It writes nothing.
+ *
+ *   master     LEGBARO_MASTER_BYTES
+ *   card       LEGBARO_CARD_BYTES, with the token open: ask before judge, which closes it
+ *   reply      what the host sent, of any length
+ *
+ * Returns code 0 and a number: 0 exactly where judge would accept the reply, else the first of the causes below that holds. What a planner
+ * tells the host:
+ *
+ *   LEGBARO_CAUSE_SIZE      the reply was cut or lengthened on the way, or is none: send it again
+ *   LEGBARO_CAUSE_HEADER    reply or record are not of this file's version, or are no such records: run the program and the table that
+ *                           belong to the file
+ *   LEGBARO_CAUSE_NAME      this answers another message, or for another file, or has another token's record: answer the message drawn
+ *                           last, from this file's table
+ *   LEGBARO_CAUSE_COUNTER   the table is from before the last change, or from a change that was not taken: use the table that was sent last
+ *   LEGBARO_CAUSE_TAG       the token's record was altered: use a copy of the table that was sent last. Where the replies for every file
+ *                           have this cause, the owner has lent another master
+ *   LEGBARO_CAUSE_DIGEST    the record is sound, and a block or a mark in the rows drawn is not the file's, or the digest was altered: the
+ *                           host has lost what it was to keep
+ *
+ * A reply that came to harm on its way may be sent again and judged then, since the token stays open.
+ * Codes: 1 (master, card), 2, 3, 9, as judge's.
+ */
+uint64_t legbaro_cause(const uint8_t *master, size_t master_length,
+                       const uint8_t *card, size_t card_length,
                        const uint8_t *reply, size_t reply_length);
 
 /*

@@ -19,11 +19,11 @@ static uint64_t with_bit(const struct file *file, enum kind kind, enum role role
 /* Every bit of a card, in every call that reads one. `judging` has a token drawn, `changing` none. */
 static void card_bits(const struct file *changing, const struct file *judging)
 {
-    static const enum kind kinds[] = {UPDATE, DELETE, APPEND, LOAD, BATCH, DRAW, JUDGE};
+    static const enum kind kinds[] = {UPDATE, DELETE, APPEND, LOAD, BATCH, DRAW, JUDGE, CAUSE};
     group_begin("every bit of a card, in every call that reads it");
     for (size_t k = 0; k < sizeof kinds / sizeof *kinds; k++)
         for (size_t bit = 0; bit < 8 * LEGBARO_CARD_BYTES; bit++)
-            with_bit(kinds[k] == JUDGE ? judging : changing, kinds[k], CARD, bit);
+            with_bit(kinds[k] == JUDGE || kinds[k] == CAUSE ? judging : changing, kinds[k], CARD, bit);
     group_end();
 }
 
@@ -117,6 +117,7 @@ static void master_bits(const struct file *changing, const struct file *judging)
         expect(with_bit(changing, APPEND, MASTER, bit) == LEGBARO_BAD_RECORD + 256 * changing->book.numbers.next,
                "the first unused record does not open");
         expect(with_bit(judging, JUDGE, MASTER, bit) == LEGBARO_REJECTED, "the reply is rejected");
+        expect(with_bit(judging, CAUSE, MASTER, bit) == LEGBARO_OK + 256 * LEGBARO_CAUSE_TAG, "the record does not open");
     }
     group_end();
 }

@@ -21,6 +21,7 @@ static const struct {
     [BATCH] = {"batch", CHANGE | BIT(ITEMS), BIT(CARD) | BIT(TABLE)},
     [DRAW] = {"draw", BIT(MASTER) | BIT(CARD) | BIT(MESSAGE) | BIT(PLAN), BIT(CARD) | BIT(MESSAGE)},
     [JUDGE] = {"judge", BIT(MASTER) | BIT(CARD) | BIT(REPLY), BIT(CARD)},
+    [CAUSE] = {"cause", BIT(MASTER) | BIT(CARD) | BIT(REPLY), 0},
     [PROVE] = {"prove", BIT(MESSAGE) | BIT(BLOCKS) | BIT(MARKS) | BIT(TABLE) | BIT(REPLY), BIT(REPLY)},
     [POSITIONS] = {"positions", 0, 0},
     [WAIT] = {"wait", BIT(PLAN), 0},

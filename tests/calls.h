@@ -5,7 +5,7 @@
 #include "buffers.h"
 #include "legbaro.h"
 
-enum kind { SET_UP, UPDATE, DELETE, APPEND, LOAD, BATCH, DRAW, JUDGE, PROVE, POSITIONS, WAIT, KINDS };
+enum kind { SET_UP, UPDATE, DELETE, APPEND, LOAD, BATCH, DRAW, JUDGE, CAUSE, PROVE, POSITIONS, WAIT, KINDS };
 
 /* The highest code of any call. */
 enum { LAST_CODE = LEGBARO_OUTSIDE_WINDOWS };

@@ -86,7 +86,8 @@ static const struct {
 };
 
 #define CHANGES (IN(UPDATE) | IN(DELETE) | IN(APPEND) | IN(LOAD) | IN(BATCH))
-#define READ_CARD (CHANGES | IN(DRAW) | IN(JUDGE))
+#define JUDGING (IN(JUDGE) | IN(CAUSE))
+#define READ_CARD (CHANGES | IN(DRAW) | JUDGING)
 #define WITH_MASTER (IN(SET_UP) | READ_CARD)
 #define NUMBERS (IN(SET_UP) | IN(POSITIONS))
 #define WITH_MARKS (IN(UPDATE) | IN(DELETE) | IN(PROVE))
@@ -169,9 +170,9 @@ const struct fault faults[] = {
     {READ_CARD, LIMITS, CARD_NEXT, T + 2},
     {IN(DRAW), TOKENS_LEFT, CARD_NEXT, T + 1},
     {READ_CARD, LIMITS, CARD_OPEN, T + 4},
-    {IN(JUDGE), LIMITS, CARD_OPEN, 1},
+    {JUDGING, LIMITS, CARD_OPEN, 1},
     {CHANGES | IN(DRAW), OPEN_OR_NOT, CARD_OPEN, BEFORE_NEXT},
-    {IN(JUDGE), OPEN_OR_NOT, CARD_OPEN, 0},
+    {JUDGING, OPEN_OR_NOT, CARD_OPEN, 0},
     {IN(PROVE), HEADER, MESSAGE_LENGTH, 0},
     {IN(PROVE), HEADER, MESSAGE_LENGTH, LEGBARO_MESSAGE_BYTES},
     {IN(PROVE), HEADER, MESSAGE_VERSION, 0},
@@ -221,7 +222,7 @@ const struct fault faults[] = {
     WRONG_LENGTH(IN(LOAD), WHOLE_BLOCKS, BLOCKS),
     WRONG_LENGTH(IN(BATCH), ITEMS_FIT, ITEMS),
     {IN(BATCH), ITEMS_FIT, LENGTH_OF(ITEMS), ONE_ITEM_TOO_MANY},
-    WRONG_LENGTH(IN(JUDGE), VERDICT, REPLY),
+    WRONG_LENGTH(JUDGING, VERDICT, REPLY),
 };
 
 const int fault_count = sizeof faults / sizeof *faults;
@@ -276,7 +277,7 @@ uint64_t fault_number(enum place place, enum kind kind)
         [WINDOWS] = LEGBARO_OUTSIDE_WINDOWS,
         [SIZE] = LEGBARO_WRONG_LENGTH,
         [MARK] = LEGBARO_BAD_MARK,
-        [OPEN_OR_NOT] = kind == JUDGE ? LEGBARO_NONE_OPEN : LEGBARO_TOKEN_OPEN,
+        [OPEN_OR_NOT] = kind == JUDGE || kind == CAUSE ? LEGBARO_NONE_OPEN : LEGBARO_TOKEN_OPEN,
         [TOKENS_LEFT] = LEGBARO_NO_TOKEN_LEFT,
         [ITEMS_FIT] = LEGBARO_BAD_BATCH,
         [ITEM_MARKS] = LEGBARO_BAD_MARK,
@@ -285,7 +286,7 @@ uint64_t fault_number(enum place place, enum kind kind)
         [FULL] = LEGBARO_FILE_FULL,
         [COUNTER] = LEGBARO_COUNTER_AT_MOST,
         [RECORDS] = LEGBARO_BAD_RECORD + 256 * 2,
-        [VERDICT] = LEGBARO_REJECTED,
+        [VERDICT] = kind == CAUSE ? LEGBARO_OK + 256 * LEGBARO_CAUSE_SIZE : LEGBARO_REJECTED,
     };
     return numbers[place];
 }

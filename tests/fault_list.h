@@ -12,9 +12,9 @@
 enum { B = 28, D = 5, R = 3, T = 3, N = 4, NOW_N = N + 3, LOADED = 3, POSITIONS_ANSWER = 4 };
 enum { FIRST_ITEM = 2, MIDDLE_ITEM = 4, LAST_ITEM = 6 };
 
-/* "Order: 1 for buffers of fixed size, 2, 3, 1 for sizes that follow from fields, then 8 or 9, 6, 4, 5, 10, 7", and the verdict last; a
- * load's 12 "just before 5"; the helper's 13 "after 3"; a batch's 14 "just before 4"; 15 "after the lengths that follow from fields", "in a
- * batch straight after 14"; of times "before everything else" 16, "and after 3 a draw outside every window (17)". */
+/* "Order: 1 for buffers of fixed size, 2, 3, 1 for sizes that follow from fields, then 8 or 9, 6, 4, 5, 10, 7", and the verdict or the
+ * cause last; a load's 12 "just before 5"; the helper's 13 "after 3"; a batch's 14 "just before 4"; 15 "after the lengths that follow from
+ * fields", "in a batch straight after 14"; of times "before everything else" 16, "and after 3 a draw outside every window (17)". */
 enum place {
     TIME,
     FIXED_SIZE,

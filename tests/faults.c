@@ -7,7 +7,7 @@
 #include "hours.h"
 
 /* Two files of one version on which only a fault turns a call away. On `changing`, for changes and draws, token 1 is spent; on `judging`,
- * for judgings and proofs, token 2 is drawn. */
+ * for judgings, causes and proofs, token 2 is drawn. */
 static struct file changing, judging;
 static uint64_t version;
 
@@ -53,7 +53,7 @@ static struct call faultless(enum kind kind)
         return file_load_call(&changing, LOADED);
     if (kind == BATCH)
         return file_batch_of(&changing, items, sizeof items / sizeof *items);
-    struct call call = file_call(kind == JUDGE || kind == PROVE ? &judging : &changing, kind);
+    struct call call = file_call(kind == JUDGE || kind == CAUSE || kind == PROVE ? &judging : &changing, kind);
     if (kind == DRAW)
         at_an_open_hour(&call);
     if (kind == PROVE)

@@ -160,7 +160,7 @@ struct call file_call(const struct file *file, enum kind kind)
     if (call_takes(kind, PLAN))
         lend_hours(&call);
     if (call_takes(kind, REPLY))
-        call.lent[REPLY] = kind == JUDGE ? honest_reply(file) : buffer_blank(LEGBARO_REPLY_BYTES);
+        call.lent[REPLY] = kind == JUDGE || kind == CAUSE ? honest_reply(file) : buffer_blank(LEGBARO_REPLY_BYTES);
     return call;
 }
 

@@ -24,7 +24,7 @@ void file_end(struct file *file);
 
 /* A call on the file with nothing wrong in its arguments: a change has a block number that exists, present bytes and mark, and a random new
  * block, a load a few random blocks, a batch a few items, a draw any plan and any time that it allows, a proof the message drawn last and
- * the current blocks and marks, a judging the reply of such a proof. The state may still turn it away. */
+ * the current blocks and marks, a judging, or the question for a cause, the reply of such a proof. The state may still turn it away. */
 struct call file_call(const struct file *file, enum kind kind);
 
 /* A load of so many random blocks. */

@@ -130,7 +130,7 @@ static void step(struct file *file)
 /* A call beside the list, on copies: any kind, with some bytes or lengths of any buffer altered. The book knows nothing of it. */
 static void aside(const struct file *file)
 {
-    static const enum kind kinds[] = {UPDATE, DELETE, APPEND, LOAD, BATCH, DRAW, JUDGE, PROVE};
+    static const enum kind kinds[] = {UPDATE, DELETE, APPEND, LOAD, BATCH, DRAW, JUDGE, CAUSE, PROVE};
     struct call call = file_call(file, kinds[chance_below(COUNT(kinds))]);
     for (uint64_t faults = 1 + chance_below(2); faults; faults--) {
         enum role role = (enum role)chance_below(ROLES);

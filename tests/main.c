@@ -60,6 +60,7 @@ int main(int count, char **words)
     test_batches();
     test_versions();
     test_marks();
+    test_causes();
     test_plans();
     test_times();
     test_lists(options.lists);

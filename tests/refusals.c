@@ -181,6 +181,7 @@ static void small_calls(struct file *file)
     broken_marks(file);
     broken_hours(file);
     refused(file, JUDGE, LEGBARO_NONE_OPEN, "judge after set-up");
+    refused(file, CAUSE, LEGBARO_NONE_OPEN, "cause after set-up");
     file_do(file, DRAW);
     refused(file, APPEND, LEGBARO_TOKEN_OPEN, "draw, append");
     broken_proof_mark(file);

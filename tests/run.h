@@ -25,6 +25,8 @@
         return before##_draw##behind(LENT(MASTER), LENT(CARD), LENT(MESSAGE), LENT(PLAN), LENT_TIME);                          \
     case JUDGE:                                                                                                                \
         return before##_judge##behind(LENT(MASTER), LENT(CARD), LENT(REPLY));                                                  \
+    case CAUSE:                                                                                                                \
+        return before##_cause##behind(LENT(MASTER), LENT(CARD), LENT(REPLY));                                                  \
     case PROVE:                                                                                                                \
         return before##_prove##behind(LENT(MESSAGE), LENT(BLOCKS), LENT(MARKS), LENT(TABLE), LENT(REPLY));                     \
     case WAIT:                                                                                                                 \

@@ -107,6 +107,10 @@ uint64_t second_judge(const uint8_t *master, size_t master_length,
                       uint8_t *card, size_t card_length,
                       const uint8_t *reply, size_t reply_length);
 
+uint64_t second_cause(const uint8_t *master, size_t master_length,
+                      const uint8_t *card, size_t card_length,
+                      const uint8_t *reply, size_t reply_length);
+
 uint64_t second_prove(const uint8_t *message, size_t message_length,
                       const uint8_t *blocks, size_t blocks_length,
                       const uint8_t *marks, size_t marks_length,

@@ -1,4 +1,4 @@
-/* The second implementation's set-up, draw, judge and proof. See second.h. */
+/* The second implementation's set-up, draw, judge, cause and proof. See second.h. */
 #include "second_parts.h"
 
 #include <stdlib.h>
@@ -115,6 +115,44 @@ uint64_t second_judge(const uint8_t *master, size_t master_length,
     c.open = 0;
     second_write_card(card, &c);
     return verdict;
+}
+
+/* ---- Cause ---- */
+
+/* "the place, from 1, of the first that holds: wrong size, wrong header (length or version, of reply or record), another file or token
+ * (either token number), another counter, bad tag, other digest" */
+static uint64_t cause_of(const uint8_t *master, const struct card *c, const uint8_t *reply, size_t reply_length)
+{
+    uint8_t id[LEGBARO_ID_BYTES], sent[TOKEN_BYTES], token[TOKEN_BYTES];
+    if (reply_length != LEGBARO_REPLY_BYTES)
+        return 1;
+    const uint8_t *record = reply + LEGBARO_REPLY_BYTES - LEGBARO_RECORD_BYTES;
+    if (!head_fits(reply, LEGBARO_REPLY_BYTES, c->version) || !head_fits(record, LEGBARO_RECORD_BYTES, c->version))
+        return 2;
+    const uint8_t *at = behind_head(reply), *in_record = behind_head(record);
+    take_bytes(&at, id, sizeof id);
+    uint64_t i = take(&at, 4), ctr = take(&in_record, 8), record_i = take(&in_record, 4);
+    take_bytes(&at, sent, sizeof sent);
+    if (memcmp(id, c->id, sizeof id) != 0 || i != c->open || record_i != c->open)
+        return 3;
+    if (ctr != c->ctr)
+        return 4;
+    use_keys(master, c->id);
+    if (!open_record(record, c, c->open, token))
+        return 5;
+    return memcmp(token, sent, sizeof token) == 0 ? 0 : 6;
+}
+
+/* "It shares judge's checks, 9 included" */
+uint64_t second_cause(const uint8_t *master, size_t master_length,
+                      const uint8_t *card, size_t card_length,
+                      const uint8_t *reply, size_t reply_length)
+{
+    uint64_t fault = second_judge_fault(master_length, card, card_length);
+    if (fault)
+        return fault;
+    struct card c = second_read_card(card);
+    return LEGBARO_OK + 256 * cause_of(master, &c, reply, reply_length);
 }
 
 /* ---- The host's proof ---- */

@@ -6,7 +6,7 @@
  *   second_tokens.c        keys, tokens, token records
  *   second_changes.c       update, delete, append, load, batch
  *   second_batches.c       the items of a batch
- *   second_audits.c        set-up, draw, judge, the host's proof
+ *   second_audits.c        set-up, draw, judge, cause, the host's proof
  *   second_plans.c         positions
  *   second_times.c         the calendar, windows, wait
  */

@@ -59,6 +59,7 @@ static void stack_of_calls(uint64_t version)
     file_do(&file, DRAW);
     expect_small(file_call(&file, PROVE));
     expect_small(file_call(&file, JUDGE));
+    expect_small(file_call(&file, CAUSE));
     file_end(&file);
 }
 

@@ -29,6 +29,9 @@ void test_versions(void);
 /* Marks: their lengths and values, blocks of zeros beside deleted ones, and version 2 beside version 1. */
 void test_marks(void);
 
+/* Why a reply is rejected: each cause alone and all sets of them, and no cause exactly where judge accepts. */
+void test_causes(void);
+
 /* How many positions to draw of planned rows. */
 void test_plans(void);
 

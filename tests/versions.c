@@ -60,6 +60,7 @@ static void versions_in_audits(const struct file *changing, const struct file *j
         with_byte(changing, DRAW, CARD, VERSION_AT, no_versions[i], LEGBARO_WRONG_HEADER);
         with_byte(judging, JUDGE, CARD, VERSION_AT, no_versions[i], LEGBARO_WRONG_HEADER);
         with_byte(judging, PROVE, MESSAGE, VERSION_AT, no_versions[i], LEGBARO_WRONG_HEADER);
+        with_byte(judging, CAUSE, CARD, VERSION_AT, no_versions[i], LEGBARO_WRONG_HEADER);
         with_byte(judging, JUDGE, REPLY, VERSION_AT, no_versions[i], LEGBARO_REJECTED);
         with_byte(judging, JUDGE, REPLY, RECORD_AT + VERSION_AT, no_versions[i], LEGBARO_REJECTED);
     }

@@ -29,6 +29,7 @@ int main(void)
     numbers |= legbaro_wait(plan, sizeof plan, 2026, 11, 16, 0);
     numbers |= legbaro_draw(master, sizeof master, card, sizeof card, message, sizeof message, plan, sizeof plan, 2026, 11, 16, 0);
     numbers |= legbaro_prove(message, sizeof message, blocks, sizeof blocks, marks, sizeof marks, table, sizeof table, reply, sizeof reply);
+    numbers |= legbaro_cause(master, sizeof master, card, sizeof card, reply, sizeof reply);
     numbers |= legbaro_judge(master, sizeof master, card, sizeof card, reply, sizeof reply);
     numbers |= LEGBARO_CODE(legbaro_positions(R, D, D - 1));
     return numbers == LEGBARO_OK ? 0 : 1;

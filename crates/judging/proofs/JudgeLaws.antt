@@ -2,10 +2,11 @@
 --   judge-short, judge-of                              the code of a judging that is turned away
 --   Lent, judge-held                                   what one that is not has
 --   judge-kept, judge-done                             what judge answers and leaves
+--   cause-kept, cause-done                             what cause answers
 --   record-head, record-number                         what the record in a reply begins with, and a number in it
 --   not-held, not-equal, all-equal                     the cause that the sealed bytes give
 --   cause-of                                           the cause of a reply from its tests
-use Prim.Native.Nat.{ℕ, _+_}
+use Prim.Native.Nat.{ℕ, _+_, _*_}
 use native.Mathlib.Omega.{arith}
 use mathlib.Core.Path.{_≡_, sym, ap, ap₂, _∙_}
 use mathlib.Core.Bool.{Bool, true, false, cond, _&&_}
@@ -24,14 +25,15 @@ use Rattle.scheme.specs.Ladder.{first, ifZero}
 use Rattle.scheme.specs.Records as R
 use Rattle.scheme.specs.Records.{headFits, nonceBytes, readCard, cardBytes}
 use Rattle.scheme.specs.Tokens.{keyK}
-use Rattle.scheme.specs.Table.{there, value, bodyIn}
+use Rattle.scheme.specs.Table.{bodyIn}
 use Rattle.scheme.specs.Judging as J
-use Rattle.scheme.specs.Calls.{turnedCard, judgeFault, judgeCode, judgeCard}
+use Rattle.scheme.specs.Calls.{turnedCard, judgeFault, judgeCode, judgeCard, causeCode}
 use Rattle.standard.specs.Standard.{standard}
 use Rattle.records.specs.Fields.{cardOf, cardFault}
 use Rattle.records.specs.declared.Card as DC
 use Rattle.records.proofs.FaultLaws.{card-rungs, rungs-other, rungs-passed, rungs-zero, card-fine}
 use Rattle.scheme.proofs.LadderLaws.{kept, done}
+use Rattle.judging.specs.Causes.{sealedCause}
 
 -- what a judging that is not turned away has
 pub record Lent (master card : List ℕ) : Type 0 where
@@ -76,6 +78,16 @@ module _ (master card : List ℕ) where
       q ∙ ap (λ (x : R.Card). cardBytes (turnedCard x (x .next) 0)) k ∙ done _ _ card n e z,
     )
 
+    pub cause-kept : (n ≡ 0 → ⊥) → n ≡ causeCode standard master card reply
+    unfolding causeCode
+    cause-kept h = e ∙ kept _ _ (judgeFault standard master card) n e h
+
+    pub cause-done : (c : R.Card) (r : ℕ) → n ≡ 0 → c ≡ readCard card → r ≡ 256 * J.causeNumber (J.cause standard master c reply)
+        → r ≡ causeCode standard master card reply
+    unfolding causeCode
+    cause-done c r z k p =
+        p ∙ ap (λ (x : R.Card). 256 * J.causeNumber (J.cause standard master x reply)) k ∙ done _ _ (judgeFault standard master card) n e z
+
 -- the record in a reply of 110 bytes
 module _ (reply : List ℕ) (long : length reply ≡ 110) where
   pub record-head : part 47 63 reply ≡ drop 47 reply
@@ -102,23 +114,15 @@ module _ (reply : List ℕ) (long : length reply ≡ 110) where
         ap (λ (x : List ℕ). opened (keyWords key) (nonceBytes ctr i) (part 47 15 reply) x) record-body
         ∙ opened-part (keyWords key) (nonceBytes ctr i) (part 47 15 reply) reply 62 (omega arith)
 
-    -- the cause that the sealed bytes give
-    abbrev pub sealed-cause : J.Cause
-    sealed-cause =
-        first J.noCause
-        ((there (bodyIn standard key ctr i (drop 47 reply)), J.badTag)
-        ∷ (same (value (bodyIn standard key ctr i (drop 47 reply))) (part 15 32 reply), J.otherDigest)
-        ∷ [])
-
-    pub tag-bad : tag-holds ≡ false → J.badTag ≡ sealed-cause
+    tag-bad : tag-holds ≡ false → J.badTag ≡ sealedCause key ctr i reply
     unfolding first
     tag-bad h = rw (body-is, h)
 
-    pub digest-other : tag-holds ≡ true → same token (part 15 32 reply) ≡ false → J.otherDigest ≡ sealed-cause
+    digest-other : tag-holds ≡ true → same token (part 15 32 reply) ≡ false → J.otherDigest ≡ sealedCause key ctr i reply
     unfolding first
     digest-other h g = rw (body-is, h, g)
 
-    pub reply-sound : tag-holds ≡ true → same token (part 15 32 reply) ≡ true → J.noCause ≡ sealed-cause
+    reply-sound : tag-holds ≡ true → same token (part 15 32 reply) ≡ true → J.noCause ≡ sealedCause key ctr i reply
     unfolding first
     reply-sound h g = rw (body-is, h, g)
 
@@ -128,7 +132,7 @@ module _ (reply : List ℕ) (long : length reply ≡ 110) where
       tag-is : holds ≡ tag-holds
       tag-is = o ∙ ap₂ (λ (u n : List ℕ). opens u n (part 47 15 reply) (part 62 32 reply) (part 94 16 reply)) w v
 
-      pub not-held : holds ≡ false → J.badTag ≡ sealed-cause
+      pub not-held : holds ≡ false → J.badTag ≡ sealedCause key ctr i reply
       not-held h = tag-bad (sym tag-is ∙ h)
 
       module _ (held : holds ≡ true) (x y : List ℕ) (a : x ≡ put 0 (part 62 32 reply) (replicate 32 0)) (d : y ≡ cipher words 1 nonce x)
@@ -139,25 +143,22 @@ module _ (reply : List ℕ) (long : length reply ≡ 110) where
         token-is : equal ≡ same token (part 15 32 reply)
         token-is = g ∙ ap (λ (u : List ℕ). same u (part 15 32 reply)) (d ∙ ap₂ (λ (u n : List ℕ). cipher u 1 n x) w v ∙ ap (cipher (keyWords key) 1 (nonceBytes ctr i)) copied)
 
-        pub not-equal : equal ≡ false → J.otherDigest ≡ sealed-cause
+        pub not-equal : equal ≡ false → J.otherDigest ≡ sealedCause key ctr i reply
         not-equal h = digest-other (sym tag-is ∙ held) (sym token-is ∙ h)
 
-        pub all-equal : equal ≡ true → J.noCause ≡ sealed-cause
+        pub all-equal : equal ≡ true → J.noCause ≡ sealedCause key ctr i reply
         all-equal h = reply-sound (sym tag-is ∙ held) (sym token-is ∙ h)
 
 -- the cause of a reply from its tests
-module _ (key master : List ℕ) (c : DC.Card) (reply : List ℕ) (k : key ≡ keyK standard master (c .id)) where
+module _ (master : List ℕ) (c : DC.Card) (reply : List ℕ) where
   abbrev names : Bool
   names =
       same (part 3 8 reply) (c .id) && eqb (ofBe (part 11 4 reply)) (c .«open_token») && eqb (ofBe (part 11 4 (drop 47 reply))) (c .«open_token»)
 
-  pub cause-of : {b₁ b₂ b₃ b₄ : Bool} {why : J.Cause} → eqb (length reply) 110 ≡ b₁ → (headFits 108 (c .version) reply && headFits 61 (c .version) (drop 47 reply)) ≡ b₂
+  pub cause-of : {b₁ b₂ b₃ b₄ : Bool} {why : J.Cause} → eqb (length reply) 110 ≡ b₁
+      → (headFits 108 (c .version) reply && headFits 61 (c .version) (drop 47 reply)) ≡ b₂
       → names ≡ b₃ → eqb (ofBe (part 3 8 (drop 47 reply))) (c .counter) ≡ b₄
-      → why ≡ cond b₁ (cond b₂ (cond b₃ (cond b₄
-      (first J.noCause
-      ((there (bodyIn standard key (c .counter) (c .«open_token») (drop 47 reply)), J.badTag)
-      ∷ (same (value (bodyIn standard key (c .counter) (c .«open_token») (drop 47 reply))) (part 15 32 reply), J.otherDigest)
-      ∷ [])) J.otherCounter) J.otherToken) J.wrongHeader) J.wrongSize
+      → why ≡ cond b₁ (cond b₂ (cond b₃ (cond b₄ (sealedCause (keyK standard master (c .id)) (c .counter) (c .«open_token») reply) J.otherCounter) J.otherToken) J.wrongHeader) J.wrongSize
       → why ≡ J.cause standard master (cardOf c) reply
   unfolding J.cause cardOf first
-  cause-of p₁ p₂ p₃ p₄ e = e ∙ rw (k, p₁, p₂, p₃, p₄)
+  cause-of p₁ p₂ p₃ p₄ e = e ∙ rw (p₁, p₂, p₃, p₄)

@@ -1,22 +1,21 @@
-// The calls that judge a host's reply. A call that is turned away leaves every buffer.
+// The calls that judge a host's reply, and that say why it is rejected. A call that is turned away leaves every buffer.
 // Every function equals a definition of the scheme's Calls or Judging at the standard primitives. Nothing is assumed.
 ghost use mathlib.Core.Path.{_≡_};
 ghost use mathlib.Core.Bool.{_&&_};
-ghost use mathlib.Core.List.{[], _∷_};
+ghost use Prim.Native.Nat.{_≤_};
 ghost use lib.Dec.{eqb};
 ghost use lib.ListN.{length, drop};
 ghost use Rattle.octets.specs.Octets as O;
 ghost use Rattle.octets.specs.Octets.{ofBe, part};
 ghost use Rattle.scheme.specs.Calls as S;
-ghost use Rattle.scheme.specs.Ladder.{first};
 ghost use Rattle.scheme.specs.Records.{headFits};
-ghost use Rattle.scheme.specs.Table.{there, value, bodyIn};
 ghost use Rattle.scheme.specs.Judging as J;
 ghost use Rattle.standard.specs.Standard.{standard};
-ghost use Rattle.judging.specs.Causes.{causeOf, Caused};
+ghost use Rattle.records.specs.Fields.{cardOf};
+ghost use Rattle.judging.specs.Causes.{causeOf, sealedCause};
 
 // Why a reply is rejected: the first cause that holds of it, `Sound` where none does.
-pub enum Cause {
+pub enum Reason {
     WrongSize,
     WrongHeader,
     OtherToken,
@@ -26,19 +25,29 @@ pub enum Cause {
     Sound,
 }
 
-// The verdict: 0 where there is no cause, else 11.
-fn verdict(why: Cause) -> u64
-    ensures { λ r. ⌜ r ≡ J.verdictOf (causeOf why) ⌝ }
+// The place of a cause, from 1; 0 for none.
+fn number_of(why: Reason) -> u64
+    ensures { λ r. ⌜ (r ≡ J.causeNumber (causeOf why)) × (r ≤ 6) ⌝ }
 {
     match why {
-        Cause::WrongSize => 11,
-        Cause::WrongHeader => 11,
-        Cause::OtherToken => 11,
-        Cause::OtherCounter => 11,
-        Cause::BadTag => 11,
-        Cause::OtherDigest => 11,
-        Cause::Sound => 0,
+        Reason::WrongSize => 1,
+        Reason::WrongHeader => 2,
+        Reason::OtherToken => 3,
+        Reason::OtherCounter => 4,
+        Reason::BadTag => 5,
+        Reason::OtherDigest => 6,
+        Reason::Sound => 0,
     }
+}
+
+// The verdict: 0 where there is no cause, else 11.
+fn verdict(why: Reason) -> u64
+    ensures { λ r. ⌜ r ≡ J.verdictOf (causeOf why) ⌝ }
+{
+    if number_of(why) == 0 {
+        return 0;
+    }
+    11
 }
 
 // Whether a reply of 110 bytes and the record in it each have their length and the version.
@@ -63,47 +72,50 @@ fn names_fit(id: [u8; 8], token: u64, reply: &[u8]) -> bool
 }
 
 // The cause that the sealed bytes of a reply of 110 bytes give under the key K: the tag, then the token against the digest. Two blocks of ChaCha20.
-fn sealed_cause(key: [u8; 32], counter: u64, token: u64, reply: &[u8]) -> Cause
+fn sealed_cause(key: [u8; 32], counter: u64, token: u64, reply: &[u8]) -> Reason
     requires { ⌜ length (now reply) ≡ 110 ⌝ }
-    ensures { λ r. ⌜ causeOf r ≡ first J.noCause ((there (bodyIn standard key counter token (drop 47 (now (reply .entry)))), J.badTag) ∷ (O.same (value (bodyIn standard key counter token (drop 47 (now (reply .entry))))) (part 15 32 (now (reply .entry))), J.otherDigest) ∷ []) ⌝ }
+    ensures { λ r. ⌜ causeOf r ≡ sealedCause key counter token (now (reply .entry)) ⌝ }
 {
     let words = chacha20::key_words(&key);
     let nonce = records::nonce_bytes(counter, counts::Token(token));
     let holds = aead::opens_at(words, &nonce, &reply[47..62], reply, 62);
     if !holds {
-        return Cause::BadTag;
+        return Reason::BadTag;
     }
     let mut x = [0u8; 32];
     octets::copy(&mut x, 0, &reply[62..94]);
     chacha20::cipher(words, 1, &nonce, &mut x);
     let equal = octets::same(&x, &reply[15..47]);
     if !equal {
-        return Cause::OtherDigest;
+        return Reason::OtherDigest;
     }
-    Cause::Sound
+    Reason::Sound
 }
 
-// Why a reply is rejected, under the key K of the card's file.
-fn reply_cause(key: [u8; 32], c: records::Card, reply: &[u8]) -> Cause
-    ensures { λ r. ⌜ Caused key c (now (reply .entry)) r ⌝ }
+// Why a reply is rejected on a card, under the master. The keys of the file are reckoned only where the clear bytes fit.
+fn reply_cause(master: &[u8], c: records::Card, reply: &[u8]) -> Reason
+    requires { ⌜ length (now master) ≡ 32 ⌝ }
+    ensures { λ r. ⌜ causeOf r ≡ J.cause standard (now (master .entry)) (cardOf c) (now (reply .entry)) ⌝ }
 {
     if reply.len() != 110 {
-        return Cause::WrongSize;
+        return Reason::WrongSize;
     }
     let heads = heads_fit(c.version, reply);
     if !heads {
-        return Cause::WrongHeader;
+        return Reason::WrongHeader;
     }
     let id = c.id;
     let names = names_fit(id, c.open_token, reply);
     if !names {
-        return Cause::OtherToken;
+        return Reason::OtherToken;
     }
     let counter = octets::be8(reply, 50);
     if counter != c.counter {
-        return Cause::OtherCounter;
+        return Reason::OtherCounter;
     }
-    sealed_cause(key, c.counter, c.open_token, reply)
+    let keys = tokens::file_keys(master, id);
+    let k = keys.k;
+    sealed_cause(k, c.counter, c.open_token, reply)
 }
 
 // The code of a judging that is turned away, 0 where it is not. Writes nothing.
@@ -135,11 +147,22 @@ pub fn judge(master: &[u8], card: &mut [u8], reply: &[u8]) -> u64
         return fault;
     }
     let c = records::read_card(card);
-    let id = c.id;
-    let keys = tokens::file_keys(master, id);
-    let k = keys.k;
-    let why = reply_cause(k, c, reply);
+    let why = reply_cause(master, c, reply);
     let after = records::turned(c, c.next, 0);
     records::write_card(card, after);
     verdict(why)
+}
+
+// Cause: answers 256 × the place of the first cause for which judge would reject a reply, 0 where it would accept it; or the code by which judge would
+// turn it away. Writes nothing.
+pub fn cause(master: &[u8], card: &[u8], reply: &[u8]) -> u64
+    ensures { λ r. ⌜ r ≡ S.causeCode standard (now (master .entry)) (now (card .entry)) (now (reply .entry)) ⌝ }
+{
+    let fault = judge_fault(master, card);
+    if fault != 0 {
+        return fault;
+    }
+    let c = records::read_card(card);
+    let why = reply_cause(master, c, reply);
+    256 * number_of(why)
 }
