@@ -31,7 +31,7 @@ seal-token-requires c κs =
     let back15 = c .before .before .before .before .before .before .before .before .before .before .before .before .before .before .before in
     let s = back15 .before .before .before .before .before .before .before .before .before .before .before .before .before .before in
     let i = s .pre .1 .1 .0 in
-    (s .pre .0 .0, i .0, i .1, i .2)
+    (omega (arith, s .pre .0 .0), i .0, i .1, i .2)
 
 same-length : tie.Need-same-length
 same-length c = search needs

@@ -36,7 +36,7 @@ mul-whole c =
 sub-t14 : tie.Need-sub-t14
 sub-t14 c =
     let s = c .before .before .before .before .before .before .before in
-    s .pre .0 .added (s .pre .1) .from-one
+    omega (arith, s .pre .0 .added (s .pre .1) .from-one)
 
 marks-in-requires : tie.Need-marks-in-requires
 marks-in-requires c κs = search needs
