@@ -24,10 +24,10 @@ use Rattle.scheme.specs.Primitives.{Primitives}
 use Rattle.scheme.specs.Records.{Card, cardBytes, readCard, headFits, nonceBytes, recordAt}
 use Rattle.scheme.specs.Tokens.{Change, keyK, drawKey, hashKey, workedDigest}
 use Rattle.scheme.specs.Table.{there, value, bodyIn, tokenIn, resealedRecord, reseal}
-use Rattle.scheme.specs.Calls.{Edit, update, delete, append, load, batch, workOf, blocksAfter, changedCard, unusedBad, changeCode, changeCard, changeTable}
+use Rattle.scheme.specs.Calls.{Edit, update, delete, append, load, batch, workOf, blocksAfter, askedCard, committedCard, changedCard, unusedBad, changeCode, changeCard, changeTable}
 use Rattle.scheme.proofs.TokenLaws.{length-worked}
 use Rattle.scheme.proofs.RecordLaws.{card-back, token-back, record-long}
-use Rattle.scheme.proofs.LimitLaws.{Limits, card-limits, limits-small}
+use Rattle.scheme.proofs.LimitLaws.{Limits, card-limits, Asking, card-asks, limits-small}
 use Rattle.scheme.proofs.TableLaws.{opens, all-open}
 use Rattle.scheme.proofs.CallLaws.{Changed, change-has}
 
@@ -102,13 +102,13 @@ module _ (P : Primitives) where
 
     resealed-63 : (i : ℕ) (rec : List ℕ) → length rec ≡ 63 → there (tokenIn P key (c .version) (c .ctr) i rec) ≡ true → length (resealedRecord P master c work i rec) ≡ 63
     unfolding resealedRecord
-    resealed-63 i rec h o = record-long P key (c .version) (c .ctr + 1) i (made i (value (tokenIn P key (c .version) (c .ctr) i rec))) (made-32 i rec h o)
+    resealed-63 i rec h o = record-long P key (c .version) (c .last + 1) i (made i (value (tokenIn P key (c .version) (c .ctr) i rec))) (made-32 i rec h o)
 
-    pub resealed-opens : (i : ℕ) (rec : List ℕ) → length rec ≡ 63 → there (tokenIn P key (c .version) (c .ctr) i rec) ≡ true → c .ctr ≤ 4294967295 → i ≤ 65536
-        → tokenIn P key (c .version) (c .ctr + 1) i (resealedRecord P master c work i rec) ≡ some (made i (value (tokenIn P key (c .version) (c .ctr) i rec)))
+    pub resealed-opens : (i : ℕ) (rec : List ℕ) → length rec ≡ 63 → there (tokenIn P key (c .version) (c .ctr) i rec) ≡ true → c .last ≤ 4294967295 → i ≤ 65536
+        → tokenIn P key (c .version) (c .last + 1) i (resealedRecord P master c work i rec) ≡ some (made i (value (tokenIn P key (c .version) (c .ctr) i rec)))
     unfolding resealedRecord
     resealed-opens i rec h o l m =
-        token-back P key (c .version) (c .ctr + 1) i (made i (value (tokenIn P key (c .version) (c .ctr) i rec))) (made-32 i rec h o) (omega arith) (omega arith)
+        token-back P key (c .version) (c .last + 1) i (made i (value (tokenIn P key (c .version) (c .ctr) i rec))) (made-32 i rec h o) (omega arith) (omega arith)
 
     -- a table of t records after m records from i on were resealed
     pub record Resealed (t m i : ℕ) (table after : List ℕ) : Type 0 where
@@ -191,6 +191,9 @@ module _ (P : Primitives) where
         ((readCard card) .open′)
     limits = card-limits (readCard card) (has .fits)
 
+    asks : Asking (readCard card)
+    asks = card-asks (readCard card) (has .fits)
+
     -- the unused records open
     open-before : (j : ℕ) → (readCard card) .next ≤ j → j < (readCard card) .next + ((readCard card) .t + 1 - (readCard card) .next)
         → opens P (keyK P master ((readCard card) .id)) ((readCard card) .version) ((readCard card) .ctr) table j ≡ true
@@ -222,15 +225,26 @@ module _ (P : Primitives) where
 
     -- the unused record i opens, one counter up, to what the change makes of its token
     pub now-inside : (i : ℕ) → (readCard card) .next ≤ i → i ≤ (readCard card) .t
-        → tokenIn P (keyK P master ((readCard card) .id)) ((readCard card) .version) ((readCard card) .ctr + 1) i (recordAt i (changeTable P master card table edit))
+        → tokenIn P (keyK P master ((readCard card) .id)) ((readCard card) .version) ((readCard card) .last + 1) i (recordAt i (changeTable P master card table edit))
         ≡ some (made master (readCard card) (workOf (readCard card) edit) i (value (inside master (readCard card) table i)))
     now-inside i h l =
         let c = readCard card in
-        ap (tokenIn P (keyK P master (c .id)) (c .version) (c .ctr + 1) i) (record-changed i h l)
+        ap (tokenIn P (keyK P master (c .id)) (c .version) (c .last + 1) i) (record-changed i h l)
         ∙ resealed-opens master c (workOf c edit) i (recordAt i table)
-        (record-63 i (c .t) table (omega (arith, limits .next1)) l (has .long)) (open-before i h (omega arith)) (limits .ctrmost) (omega (arith, limits .tmost))
+        (record-63 i (c .t) table (omega (arith, limits .next1)) l (has .long)) (open-before i h (omega arith)) (asks .most) (omega (arith, limits .tmost))
 
-    after-limits : Limits ((readCard card) .B) ((readCard card) .d) ((readCard card) .r) ((readCard card) .t) (blocksAfter (readCard card) edit) ((readCard card) .ctr + 1)
+    changed-asks : (n : ℕ) → Asking (changedCard (readCard card) n)
+    unfolding changedCard committedCard askedCard
+    changed-asks n =
+        record { low = omega arith; most = omega (arith, has .room); pend = omega arith; countmost = omega arith; idle = λ e. refl; busy = λ e. absurd (omega arith) }
+
+    changed-plain : (n : ℕ) → eqb ((changedCard (readCard card) n) .version) 3 ≡ false
+        → ((changedCard (readCard card) n) .last ≡ (changedCard (readCard card) n) .ctr) × ((changedCard (readCard card) n) .pending ≡ 0)
+        × ((changedCard (readCard card) n) .count ≡ 0)
+    unfolding changedCard committedCard askedCard
+    changed-plain n e = (refl, refl, refl)
+
+    after-limits : Limits ((readCard card) .B) ((readCard card) .d) ((readCard card) .r) ((readCard card) .t) (blocksAfter (readCard card) edit) ((readCard card) .last + 1)
         ((readCard card) .next) ((readCard card) .open′)
     after-limits =
         let fit = blocks-fit master (readCard card) table edit has in
@@ -250,8 +264,9 @@ module _ (P : Primitives) where
     unfolding changeCard
     card-changed =
         let c = readCard card in
-        rw ok (card-back (changedCard c (blocksAfter c edit)) (limits-small (changedCard c (blocksAfter c edit)) (unfold changedCard in has .id8)
-        (unfold changedCard in after-limits)))
+        let n = blocksAfter c edit in
+        rw ok (card-back (changedCard c n) (limits-small (changedCard c n) (unfold changedCard committedCard askedCard in has .id8)
+        (unfold changedCard committedCard askedCard in after-limits) (changed-asks n) (changed-plain n)))
 
     -- the card's bytes
     pub card-written : changeCard P master card table edit ≡ cardBytes (changedCard (readCard card) (blocksAfter (readCard card) edit))
@@ -262,7 +277,7 @@ module _ (P : Primitives) where
     pub left : (i : ℕ) (x : List ℕ) → (readCard card) .next ≤ i → i ≤ (readCard card) .t → inside master (readCard card) table i ≡ some x
         → inside master (readCard (changeCard P master card table edit)) (changeTable P master card table edit) i
         ≡ some (made master (readCard card) (workOf (readCard card) edit) i x)
-    unfolding changedCard
+    unfolding changedCard committedCard askedCard
     left i x h l o =
         let c = readCard card in
         let z : value (inside master c table i) ≡ x = rw o in
