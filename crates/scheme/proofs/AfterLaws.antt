@@ -274,7 +274,7 @@ module _ (P : Primitives) where
     -- a judgement that is made finds nothing pending
     pub judged-idle : judgeFault P (b .key) (cardBytes (bookCard b)) ≡ 0 → b .asked ≡ none
     unfolding bookCard
-    judged-idle e = none-open P b g (subst (λ (c : Card). 1 ≤ c .open′) (back P b g) (judge-has P (b .key) (cardBytes (bookCard b)) e .1))
+    judged-idle e = none-open P b g (subst (λ (c : Card). 1 ≤ c .open′) (back P b g) (judge-has P (b .key) (cardBytes (bookCard b)) e .some-open))
 
     pub settled-pending : settleCode (cardBytes (bookCard b)) ≡ 0 → 1 ≤ (bookCard b) .pending
-    settled-pending e = subst (λ (c : Card). 1 ≤ c .pending) (back P b g) (settle-has (cardBytes (bookCard b)) e)
+    settled-pending e = subst (λ (c : Card). 1 ≤ c .pending) (back P b g) (settle-has (cardBytes (bookCard b)) e .1)

@@ -26,9 +26,10 @@ use Rattle.scheme.specs.Tokens.{Change, keyK, drawKey, hashKey, workedDi
 use Rattle.scheme.specs.Table.{there, value, bodyIn, tokenIn, resealedRecord, reseal}
 use Rattle.scheme.specs.Calls.{Edit, update, delete, append, load, batch, workOf, blocksAfter, askedCard, committedCard, changedCard, unusedBad, changeCode, changeCard, changeTable}
 use Rattle.scheme.proofs.TokenLaws.{length-worked}
-use Rattle.scheme.proofs.RecordLaws.{card-back, token-back, record-long}
-use Rattle.scheme.proofs.LimitLaws.{Limits, card-limits, Asking, card-asks, limits-small}
+use Rattle.scheme.proofs.RecordLaws.{token-back, record-long}
+use Rattle.scheme.proofs.LimitLaws.{Limits, card-limits}
 use Rattle.scheme.proofs.TableLaws.{opens, all-open}
+use Rattle.scheme.proofs.CardLaws.{order-back, changed-order}
 use Rattle.scheme.proofs.CallLaws.{Changed, change-has}
 
 -- a record in the front of a table
@@ -172,15 +173,14 @@ module _ (P : Primitives) where
   abbrev pub inside : List ℕ → Card → List ℕ → ℕ → Option (List ℕ)
   inside master c table i = tokenIn P (keyK P master (c .id)) (c .version) (c .ctr) i (recordAt i table)
 
-  -- the number of blocks after an accepted change is within its limits
-  blocks-fit : (master : List ℕ) (c : Card) (table : List ℕ) (edit : Edit) → Changed P master c table edit
-      → (1 ≤ blocksAfter c edit) × (blocksAfter c edit ≤ 16777216)
-  blocks-fit master c table (update m old mark new) u = let l = card-limits c (u .fits) in (l .n1, l .nmost)
-  blocks-fit master c table (delete m old mark) u = let l = card-limits c (u .fits) in (l .n1, l .nmost)
+  -- an accepted change takes no block away and stays within the most
+  pub blocks-fit : (master : List ℕ) (c : Card) (table : List ℕ) (edit : Edit) → Changed P master c table edit
+      → (c .n ≤ blocksAfter c edit) × (blocksAfter c edit ≤ 16777216)
+  blocks-fit master c table (update m old mark new) u = (omega arith, card-limits c (u .order .fits) .nmost)
+  blocks-fit master c table (delete m old mark) u = (omega arith, card-limits c (u .order .fits) .nmost)
   blocks-fit master c table (append new) u = (omega arith, omega (arith, ltb-true (c .n) 16777216 (u .placed 5)))
-  blocks-fit master c table (load blocks) u =
-      (omega (arith, card-limits c (u .fits) .n1), leb-true (c .n + length blocks / c .B) 16777216 (u .placed 5))
-  blocks-fit master c table (batch items) u = let l = card-limits c (u .fits) in (l .n1, l .nmost)
+  blocks-fit master c table (load blocks) u = (omega arith, leb-true (c .n + length blocks / c .B) 16777216 (u .placed 5))
+  blocks-fit master c table (batch items) u = (omega arith, card-limits c (u .order .fits) .nmost)
 
   -- an accepted change
   module _ (master card table : List ℕ) (edit : Edit) (ok : changeCode P master card table edit ≡ 0) where
@@ -189,10 +189,7 @@ module _ (P : Primitives) where
 
     limits : Limits ((readCard card) .B) ((readCard card) .d) ((readCard card) .r) ((readCard card) .t) ((readCard card) .n) ((readCard card) .ctr) ((readCard card) .next)
         ((readCard card) .open′)
-    limits = card-limits (readCard card) (has .fits)
-
-    asks : Asking (readCard card)
-    asks = card-asks (readCard card) (has .fits)
+    limits = card-limits (readCard card) (has .order .fits)
 
     -- the unused records open
     open-before : (j : ℕ) → (readCard card) .next ≤ j → j < (readCard card) .next + ((readCard card) .t + 1 - (readCard card) .next)
@@ -231,42 +228,15 @@ module _ (P : Primitives) where
         let c = readCard card in
         ap (tokenIn P (keyK P master (c .id)) (c .version) (c .last + 1) i) (record-changed i h l)
         ∙ resealed-opens master c (workOf c edit) i (recordAt i table)
-        (record-63 i (c .t) table (omega (arith, limits .next1)) l (has .long)) (open-before i h (omega arith)) (asks .most) (omega (arith, limits .tmost))
-
-    changed-asks : (n : ℕ) → Asking (changedCard (readCard card) n)
-    unfolding changedCard committedCard askedCard
-    changed-asks n =
-        record { low = omega arith; most = omega (arith, has .room); pend = omega arith; countmost = omega arith; idle = λ e. refl; busy = λ e. absurd (omega arith) }
-
-    changed-plain : (n : ℕ) → eqb ((changedCard (readCard card) n) .version) 3 ≡ false
-        → ((changedCard (readCard card) n) .last ≡ (changedCard (readCard card) n) .ctr) × ((changedCard (readCard card) n) .pending ≡ 0)
-        × ((changedCard (readCard card) n) .count ≡ 0)
-    unfolding changedCard committedCard askedCard
-    changed-plain n e = (refl, refl, refl)
-
-    after-limits : Limits ((readCard card) .B) ((readCard card) .d) ((readCard card) .r) ((readCard card) .t) (blocksAfter (readCard card) edit) ((readCard card) .last + 1)
-        ((readCard card) .next) ((readCard card) .open′)
-    after-limits =
-        let fit = blocks-fit master (readCard card) table edit has in
-        record {
-          shape = limits .shape;
-          t1 = limits .t1;
-          tmost = limits .tmost;
-          n1 = fit .0;
-          nmost = fit .1;
-          ctrmost = omega (arith, has .room);
-          next1 = limits .next1;
-          nextmost = limits .nextmost;
-          last = limits .last;
-        }
+        (record-63 i (c .t) table (omega (arith, limits .next1)) l (has .long)) (open-before i h (omega arith)) (omega (arith, has .room)) (omega (arith, limits .tmost))
 
     pub card-changed : readCard (changeCard P master card table edit) ≡ changedCard (readCard card) (blocksAfter (readCard card) edit)
     unfolding changeCard
     card-changed =
         let c = readCard card in
         let n = blocksAfter c edit in
-        rw ok (card-back (changedCard c n) (limits-small (changedCard c n) (unfold changedCard committedCard askedCard in has .id8)
-        (unfold changedCard committedCard askedCard in after-limits) (changed-asks n) (changed-plain n)))
+        let fit = blocks-fit master c table edit has in
+        rw ok (order-back (changedCard c n) (changed-order c (has .order) n (fit .0) (fit .1) (has .room)))
 
     -- the card's bytes
     pub card-written : changeCard P master card table edit ≡ cardBytes (changedCard (readCard card) (blocksAfter (readCard card) edit))

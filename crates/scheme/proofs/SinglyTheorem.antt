@@ -214,7 +214,7 @@ module _ (P : Primitives) (master asked : List ℕ) where
         let c = readCard card in
         let has = change-has P master card table one ok in
         let n = (cardAfter c (e ∷ es)) .n in
-        let sides = apart c n (c .last + 1) (c .last + length (e ∷ es)) (has .id8) in
+        let sides = apart c n (c .last + 1) (c .last + length (e ∷ es)) (has .order .id8) in
         let tables = last-table (e ∷ es) card table (has .long) a in
         record {
           opens = λ i h l. rw (token-left i h l);
