@@ -2,7 +2,7 @@
 --   Held                            where a change is pending, the asked table is the one that its commit makes the book's
 --   card-changed, good-changed      after a change in one step; card-asked, table-asked, held-asked, good-asked: while it is pending
 --   card-committed .. good-dropped  after its commit and its drop
---   card-turned .. good-drawn       after a draw or a judgement
+--   good-turned .. good-drawn       after a draw or a judgement
 --   drawn-left, judged-idle, settled-pending   what an accepted call finds
 use Prim.Native.Nat.{ℕ, _+_, _*_, _-_, _≤_, _<_}
 use native.Mathlib.Omega.{arith}
@@ -36,7 +36,7 @@ module _ (P : Primitives) where
   Held b asked = HeldAt (b .asked) b asked
 
   module _ (b : Book) (g : Good P b) where
-    pub limits-changed : (n ctr : ℕ) → 1 ≤ n → n ≤ 16777216 → ctr ≤ 4294967295 → Limits (b .B) (b .d) (b .r) (b .t) n ctr (b .next) (b .open′)
+    limits-changed : (n ctr : ℕ) → 1 ≤ n → n ≤ 16777216 → ctr ≤ 4294967295 → Limits (b .B) (b .d) (b .r) (b .t) n ctr (b .next) (b .open′)
     limits-changed n ctr n1 nmost ctrmost = record {
       shape = g .limits .shape;
       t1 = g .limits .t1;
@@ -85,7 +85,7 @@ module _ (P : Primitives) where
       unfolding askedCard bookCard withAsk
       card-asked n e = rw e
 
-      pub record-asked : (i : ℕ) → freshRecord P (withAsk b blocks) i ≡ freshRecord P b i
+      record-asked : (i : ℕ) → freshRecord P (withAsk b blocks) i ≡ freshRecord P b i
       unfolding freshRecord freshToken withAsk
       record-asked i = refl
 
@@ -118,7 +118,7 @@ module _ (P : Primitives) where
 
     -- the book after a commit
     module _ (pending : 1 ≤ (bookCard b) .pending) where
-      pub waits : Pending b (joinedBlocks (b .asked) (b .blocks))
+      waits : Pending b (joinedBlocks (b .asked) (b .blocks))
       waits = some-asked P b g pending .1
 
       pub card-committed : committedCard (bookCard b) ≡ bookCard (committed b)
@@ -149,7 +149,7 @@ module _ (P : Primitives) where
     unfolding droppedCard bookCard dropped
     card-dropped = refl
 
-    pub record-dropped : (i : ℕ) → freshRecord P (dropped b) i ≡ freshRecord P b i
+    record-dropped : (i : ℕ) → freshRecord P (dropped b) i ≡ freshRecord P b i
     unfolding freshRecord freshToken dropped
     record-dropped i = refl
 
@@ -179,11 +179,11 @@ module _ (P : Primitives) where
       unfolding withTurn
       key-turned = refl
 
-      pub card-turned : turnedCard (bookCard b) next o ≡ bookCard (withTurn b next o spent)
+      card-turned : turnedCard (bookCard b) next o ≡ bookCard (withTurn b next o spent)
       unfolding turnedCard bookCard withTurn
       card-turned = refl
 
-      pub record-turned : (i : ℕ) → freshRecord P (withTurn b next o spent) i ≡ freshRecord P b i
+      record-turned : (i : ℕ) → freshRecord P (withTurn b next o spent) i ≡ freshRecord P b i
       unfolding freshRecord freshToken withTurn
       record-turned i = refl
 
@@ -196,7 +196,7 @@ module _ (P : Primitives) where
         unfolding withTurn
         held-turned asked = subst (λ (x : Option (List (List ℕ))). HeldAt x (withTurn b next o spent) asked) (sym idle) tt
 
-        pub limits-turned : 1 ≤ next → next ≤ b .t + 1 → (eqb o 0 || eqb o (next - 1)) ≡ true
+        limits-turned : 1 ≤ next → next ≤ b .t + 1 → (eqb o 0 || eqb o (next - 1)) ≡ true
             → Limits (b .B) (b .d) (b .r) (b .t) (length (b .blocks)) (b .ctr) next o
         limits-turned h₁ h₂ h₃ = record {
           shape = g .limits .shape;
@@ -210,7 +210,7 @@ module _ (P : Primitives) where
           last = h₃;
         }
 
-        pub none-turned : Asked (withTurn b next o spent) (b .asked)
+        none-turned : Asked (withTurn b next o spent) (b .asked)
         none-turned = subst (Asked (withTurn b next o spent)) (sym idle) tt
 
         pub good-turned : 1 ≤ next → next ≤ b .t + 1 → (eqb o 0 || eqb o (next - 1)) ≡ true → length (joined spent) ≡ (next - 1) * 63

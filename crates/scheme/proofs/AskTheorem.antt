@@ -3,7 +3,7 @@
 --   one-step      where the last two hold, both give the same number; where it is 0, the second table is the table that the change writes, and a commit is
 --                 accepted and leaves the card that the change leaves
 --   read-asked    the card that an accepted ask leaves
---   read-dropped  and after its drop: as before the ask, but for the last counter issued
+--   read-dropped  and after its drop: as before the ask, but with one counter more issued
 use Prim.Native.Nat.{ℕ, _+_, _*_, _<_}
 use native.Mathlib.Omega.{arith}
 use mathlib.Core.Path.{_≡_, refl, sym, _∙_}
@@ -24,6 +24,24 @@ use Rattle.scheme.proofs.LimitLaws.{card-asks}
 use Rattle.scheme.proofs.CardLaws.{InOrder, order-back, asked-order, dropped-order}
 use Rattle.scheme.proofs.CallLaws.{late-plain, Changed, ask-has}
 use Rattle.scheme.proofs.ResealLaws.{blocks-fit}
+
+-- a card with one counter more issued
+unfoldable pub issuedMore : Card → Card
+issuedMore c = record {
+  version = c .version;
+  id = c .id;
+  B = c .B;
+  d = c .d;
+  r = c .r;
+  t = c .t;
+  n = c .n;
+  ctr = c .ctr;
+  next = c .next;
+  open′ = c .open′;
+  last = c .last + 1;
+  pending = c .pending;
+  count = c .count;
+}
 
 -- a ladder with one test more, and one more in a rung, where both hold
 two-more : (a h v f s : Bool) (rest : List (Bool × ℕ)) → v ≡ true → s ≡ true
@@ -67,23 +85,8 @@ module _ (P : Primitives) (master card table second : List ℕ) (edit : Edit) wh
         (passed _ _ (lt-ltb 0 ((askedCard c n) .pending) pending-some) passed-all))))
 
     -- "even after a drop": the counter that the ask took stays issued
-    pub read-dropped : readCard (dropCard (askCard P master card table second edit))
-        ≡ record {
-          version = (readCard card) .version;
-          id = (readCard card) .id;
-          B = (readCard card) .B;
-          d = (readCard card) .d;
-          r = (readCard card) .r;
-          t = (readCard card) .t;
-          n = (readCard card) .n;
-          ctr = (readCard card) .ctr;
-          next = (readCard card) .next;
-          open′ = (readCard card) .open′;
-          last = (readCard card) .last + 1;
-          pending = (readCard card) .pending;
-          count = (readCard card) .count;
-        }
-    unfolding dropCard askCard
+    pub read-dropped : readCard (dropCard (askCard P master card table second edit)) ≡ issuedMore (readCard card)
+    unfolding dropCard askCard issuedMore
     read-dropped =
         let idle = has .idle in
         let none : c .count ≡ 0 = card-asks c (has .order .fits) .idle idle in

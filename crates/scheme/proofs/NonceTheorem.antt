@@ -103,11 +103,11 @@ module _ (P : Primitives) where
         let limits = card-limits c (has .order .fits) in
         nonces-are (c .last + 1) (c .t + 1 - c .next) (c .next) (changeTable P master card table edit)
         (λ j u v.
-            let s = sealed-under j u (omega arith) in
-            let key = keyK P master (c .id) in (
-              rw (s .1) (sealed-ctr P key (c .version) (c .last + 1) j (s .0) (omega (arith, has .room))),
-              rw (s .1) (sealed-i P key (c .version) (c .last + 1) j (s .0) (omega (arith, limits .tmost))),
-            ))
+        let s = sealed-under j u (omega arith) in
+        let key = keyK P master (c .id) in (
+          rw (s .1) (sealed-ctr P key (c .version) (c .last + 1) j (s .0) (omega (arith, has .room))),
+          rw (s .1) (sealed-i P key (c .version) (c .last + 1) j (s .0) (omega (arith, limits .tmost))),
+        ))
 
     change-last : (readCard (changeCard P master card table edit)) .last ≡ (readCard card) .last + 1
     change-last = rw (card-changed P master card table edit ok) (unfold changedCard committedCard askedCard in refl)
