@@ -8,7 +8,7 @@ use lib.ListN.{length}
 use Rattle.scheme.specs.Table.{firstBad, reseal}
 use Rattle.scheme.proofs.TableLaws.{reseal-end}
 use Rattle.standard.specs.Standard.{standard}
-use Rattle.records.specs.Fields.{cardOf}
+use Rattle.cards.specs.Fields.{cardOf}
 use Rattle.tokens.specs.Keyed.{Keyed}
 use Rattle.items.specs.Items.{itemsOf}
 use Rattle.reseals.proofs.ResealLaws.{bad-opens, turn, reseal-more}
