@@ -1,5 +1,4 @@
 -- What is left to reseal gives the same table, the records left still open, and each turn takes one, by turn and reseal-more.
-use borrow.Author.Needs.{needs}
 use native.Mathlib.Omega.{arith}
 use mathlib.Core.Path.{_≡_, refl, sym, _∙_}
 use mathlib.Core.List.{List}
