@@ -1,7 +1,7 @@
 -- The four tests are those of a set-up's numbers.
 use borrow.Author.Needs.{needs}
-use Rattle.audits.proofs.numbers_fit.Statement.{statement}
-use Rattle.audits.proofs.numbers_fit.Tie as tie
+use Rattle.set_ups.proofs.numbers_fit.Statement.{statement}
+use Rattle.set_ups.proofs.numbers_fit.Tie as tie
 
 version-fits-requires : tie.Need-version-fits-requires
 version-fits-requires c κs = search needs
