@@ -80,7 +80,15 @@ fn set_up_code(
     if !numbers {
         return 3;
     }
-    let sizes = sizes_fit(version, block_bytes, tokens, blocks_count, blocks, card, table);
+    let sizes = sizes_fit(
+        version,
+        block_bytes,
+        tokens,
+        blocks_count,
+        blocks,
+        card,
+        table,
+    );
     if !sizes {
         return 1;
     }
