@@ -124,8 +124,8 @@ static enum kind any_change(void)
 /* Every set of records of a small file: all of it damaged in each way, and in any way in each change. */
 static void every_set(const struct held *held)
 {
-    uint64_t t = held->file.book.numbers.t;
-    for (unsigned bits = 0; bits < 1u << t; bits++) {
+    uint64_t t = held->file.book.numbers.t, step = t < 3 ? 1 : 1 << (t - 2);
+    for (uint64_t bits = 0; bits < 1u << t; bits = tried_behind(bits, step)) {
         struct set set = {{0}};
         for (uint64_t i = 1; i <= t; i++)
             set.has[i] = bits >> (i - 1) & 1;
@@ -184,7 +184,7 @@ static void larger_table(uint64_t t, uint64_t spent)
 static void larger_tables(void)
 {
     group_begin("any set of damaged records in larger tables, fetched again from the number told");
-    for (int i = 0; i < LARGER_FILES; i++) {
+    for (uint64_t i = 0; i < LARGER_FILES; i = tried_behind(i, 8)) {
         uint64_t t = SMALL_T + 1 + chance_below(MOST_T - SMALL_T);
         larger_table(t, chance_below(t / 4 + 1));
     }

@@ -1,10 +1,12 @@
 /* Every single-bit change of what the calls read. */
 #include "tests.h"
 
+#include "chance.h"
 #include "files.h"
 #include "groups.h"
 
-enum { B = 28, D = 5, R = 5, T = 3 };
+/* Under a memory checker one bit in so many is flipped. */
+enum { B = 28, D = 5, R = 5, T = 3, BITS = 7 };
 
 /* A call of a kind on the file with one bit of a buffer flipped. Answers its number. */
 static uint64_t with_bit(const struct file *file, enum kind kind, enum role role, size_t bit)
@@ -22,7 +24,7 @@ static void card_bits(const struct file *changing, const struct file *judging)
     static const enum kind kinds[] = {UPDATE, DELETE, APPEND, LOAD, BATCH, DRAW, JUDGE, CAUSE};
     group_begin("every bit of a card, in every call that reads it");
     for (size_t k = 0; k < sizeof kinds / sizeof *kinds; k++)
-        for (size_t bit = 0; bit < 8 * LEGBARO_CARD_BYTES; bit++)
+        for (size_t bit = 0; bit < 8 * LEGBARO_CARD_BYTES; bit = tried_behind(bit, BITS))
             with_bit(kinds[k] == JUDGE || kinds[k] == CAUSE ? judging : changing, kinds[k], CARD, bit);
     group_end();
 }
@@ -31,7 +33,7 @@ static void card_bits(const struct file *changing, const struct file *judging)
 static void record_bits(const struct file *changing)
 {
     group_begin("every bit of every token record");
-    for (size_t bit = 0; bit < 8 * T * LEGBARO_RECORD_BYTES; bit++) {
+    for (size_t bit = 0; bit < 8 * T * LEGBARO_RECORD_BYTES; bit = tried_behind(bit, BITS)) {
         uint64_t i = bit / (8 * LEGBARO_RECORD_BYTES) + 1;
         uint64_t number = with_bit(changing, UPDATE, TABLE, bit);
         expect(number == (i < changing->book.numbers.next ? LEGBARO_OK : LEGBARO_BAD_RECORD + 256 * i), "record %llu, bit %lu",
@@ -58,7 +60,7 @@ static void item_bits(const struct file *changing)
     static const uint64_t blocks[] = {1, 4, 5};
     group_begin("every bit of a batch");
     struct call batch = file_batch_of(changing, blocks, sizeof blocks / sizeof *blocks);
-    for (size_t bit = 0; bit < 8 * batch.lent[ITEMS].length; bit++) {
+    for (size_t bit = 0; bit < 8 * batch.lent[ITEMS].length; bit = tried_behind(bit, BITS)) {
         struct call call = call_copy(&batch);
         buffer_flip(&call.lent[ITEMS], bit);
         expect(item_number_fits(changing, bit, call_compare(&call)), "bit %lu of the items", (unsigned long)bit);
@@ -72,7 +74,7 @@ static void item_bits(const struct file *changing)
 static void reply_bits(const struct file *judging)
 {
     group_begin("every bit of a reply");
-    for (size_t bit = 0; bit < 8 * LEGBARO_REPLY_BYTES; bit++)
+    for (size_t bit = 0; bit < 8 * LEGBARO_REPLY_BYTES; bit = tried_behind(bit, BITS))
         expect(with_bit(judging, JUDGE, REPLY, bit) == LEGBARO_REJECTED, "a reply with bit %lu flipped is rejected", (unsigned long)bit);
     group_end();
 }
@@ -82,14 +84,14 @@ static void proof_bits(const struct file *judging)
 {
     size_t marks = judging->book.numbers.version == LEGBARO_WITHOUT_MARKS ? 0 : judging->book.numbers.n;
     group_begin("every bit of a message, of the blocks, of the marks and of the table in a proof");
-    for (size_t bit = 0; bit < 8 * marks; bit++)
+    for (size_t bit = 0; bit < 8 * marks; bit = tried_behind(bit, BITS))
         expect(with_bit(judging, PROVE, MARKS, bit) == (bit % 8 == 0 ? LEGBARO_OK : LEGBARO_BAD_MARK), "bit %lu of the marks",
                (unsigned long)bit);
-    for (size_t bit = 0; bit < 8 * LEGBARO_MESSAGE_BYTES; bit++)
+    for (size_t bit = 0; bit < 8 * LEGBARO_MESSAGE_BYTES; bit = tried_behind(bit, BITS))
         with_bit(judging, PROVE, MESSAGE, bit);
-    for (size_t bit = 0; bit < 8 * B * judging->book.numbers.n; bit++)
+    for (size_t bit = 0; bit < 8 * B * judging->book.numbers.n; bit = tried_behind(bit, BITS))
         with_bit(judging, PROVE, BLOCKS, bit);
-    for (size_t bit = 0; bit < 8 * T * LEGBARO_RECORD_BYTES; bit++)
+    for (size_t bit = 0; bit < 8 * T * LEGBARO_RECORD_BYTES; bit = tried_behind(bit, BITS))
         with_bit(judging, PROVE, TABLE, bit);
     group_end();
 }
@@ -98,7 +100,7 @@ static void proof_bits(const struct file *judging)
 static void plan_bits(const struct file *changing)
 {
     group_begin("every bit of a plan");
-    for (size_t bit = 0; bit < 8 * LEGBARO_PLAN_BYTES; bit++) {
+    for (size_t bit = 0; bit < 8 * LEGBARO_PLAN_BYTES; bit = tried_behind(bit, BITS)) {
         struct call wait = file_call(changing, DRAW);
         with_bit(changing, DRAW, PLAN, bit);
         wait.kind = WAIT;
@@ -113,7 +115,7 @@ static void plan_bits(const struct file *changing)
 static void master_bits(const struct file *changing, const struct file *judging)
 {
     group_begin("every bit of the master");
-    for (size_t bit = 0; bit < 8 * LEGBARO_MASTER_BYTES; bit++) {
+    for (size_t bit = 0; bit < 8 * LEGBARO_MASTER_BYTES; bit = tried_behind(bit, BITS)) {
         expect(with_bit(changing, APPEND, MASTER, bit) == LEGBARO_BAD_RECORD + 256 * changing->book.numbers.next,
                "the first unused record does not open");
         expect(with_bit(judging, JUDGE, MASTER, bit) == LEGBARO_REJECTED, "the reply is rejected");

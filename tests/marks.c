@@ -195,7 +195,7 @@ static void twins(void)
 {
     static const enum kind changes[] = {UPDATE, DELETE, DELETE, APPEND, LOAD, BATCH};
     group_begin("tokens of version 2 are those of version 1 over blocks behind their marks");
-    for (int i = 0; i < TWINS; i++) {
+    for (uint64_t i = 0; i < TWINS; i = tried_behind(i, 5)) {
         uint64_t d = 1 + chance_below(20);
         struct file file =
             file_set_up(LEGBARO_WITH_MARKS, 1 + chance_below(MOST_B), d, 1 + chance_below(d), T, 1 + chance_below(2 * d));
