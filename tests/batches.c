@@ -176,7 +176,9 @@ static void expect_alike(const struct file *one, const struct file *other)
         expect(opened && memcmp(token, other_token, sizeof token) == 0, "the same token %llu", (unsigned long long)i);
     }
     struct buffer card = buffer_copy(&one->card);
-    buffer_put_number(&card, LEGBARO_CARD_COUNTER, 8, others.ctr);
+    numbers.ctr = others.ctr;
+    numbers.last_issued = others.last_issued;
+    second_write_card(card.bytes, &numbers);
     expect(buffer_same(&card, &other->card), "the same card but for the counter");
     buffer_free(&card);
 }

@@ -63,6 +63,8 @@ int main(int count, char **words)
     test_batches();
     test_versions();
     test_marks();
+    test_asks();
+    test_pending();
     test_causes();
     test_plans();
     test_times();
