@@ -1,7 +1,7 @@
 /*
  * Times set-up, proof, update, load and batch by each code of the archive and by the second implementation over libcrypto, and a load, a
- * batch or an ask beside the calls in whose place it stands; prints tables that can be pasted into docs/PERFORMANCE.md. What each code writes is
- * compared with the second implementation first. A code that the processor can't run is left out.
+ * batch or an ask beside the calls in whose place it stands; prints tables that can be pasted into docs/PERFORMANCE.md. What each code
+ * writes is compared with the second implementation first. A code that the processor can't run is left out.
  *
  * libcrypto uses the processor's SHA instructions where it has them; a helper shows what it does without them. In each row all alternate, and
  * the best of each counts.

@@ -46,9 +46,9 @@ struct correction {
 /* Corrects blocks together, in one batch: fetches them, and puts the others in their places; the host does the same. */
 uint64_t owner_corrects(const struct correction *corrections, size_t count);
 
-/* Changes in two steps, of a file of version 3. Asks for an append; the card is stored, and the second table is kept with the block and goes
- * nowhere yet. Sends both to the host, which keeps them beside what stands. Then commits: the host is told that they stand. Or drops: both
- * throw them away. */
+/* Changes in two steps, of a file of version 3. Asks for an append: the card is stored, and the second table is kept with the block and
+ * goes nowhere yet. Sends both to the host, which keeps them beside what stands. Then commits, and the host is told that they stand; or
+ * drops, and both throw them away. */
 uint64_t owner_asks_append(struct bytes block);
 void owner_sends_asked(void);
 uint64_t owner_commits(void);

@@ -29,17 +29,18 @@
  * all marks to its proof. A file of version 1 has no marks: there the buffers for them are empty. Take version 2 or 3 for a new file. The
  * version is fixed at set-up, and card, token records, messages and replies bear it.
  *
- * CHANGES IN TWO STEPS. A line may drop while a changed table is on its way to the host. A file of version 3 takes its changes in two
- * steps: an ask writes the changed table to a second buffer and leaves the standing table as it is; then a commit makes the change stand,
- * or a drop gives it up. A card of version 3 has 63 bytes, not 43, and keeps what is pending; all else is as in version 2.
+ * CHANGES IN TWO STEPS. A line may drop while a changed table is on its way to the host. A file of version 3 takes changes in two steps
+ * too: an ask writes the changed table to a second buffer and leaves the standing table as it is; then a commit makes the change stand, or
+ * a drop gives it up. A card of version 3 has 63 bytes, not 43, and keeps what is pending; all else is as in version 2.
  *   1. Ask, and store the card that it wrote where a crash can't lose it, and the second table with it. Only then may the second table
  *      leave the house.
  *   2. Send the host the second table, and the blocks and marks that change. The host keeps the standing table and the blocks as they were
  *      beside them.
- *   3. When the host has said that it has them all, commit, store the card, and tell the host which table stands: it lets the others go.
+ *   3. When the host has said that it has them all, commit, store the card, and tell the host that they stand: it lets the others go.
  * After a dropped line send the same second table again, as often as it takes: its bytes do not change. Or drop, store the card, and ask
- * again: the host throws away what it may have got of the first ask, and the standing table stands. An ask takes a counter that no ask or
- * change before it took, dropped ones included. While a change is pending no other ask, no change in one step and no draw is accepted.
+ * again; so too where the second table was lost, since no call makes it once more. The host then throws away what it may have got, and the
+ * standing table stands. An ask takes a counter that no ask or change before it took, dropped ones included. While a change is pending no
+ * other ask, no change in one step and no draw is accepted.
  *
  * DRAWS IN CLOSING HOURS. A host reads slowly while shops trade, so a centre has a weekly plan of when it draws. The plan has
  * LEGBARO_PLAN_BYTES: for each weekday, Monday first, the minute of the day at which its window opens and the minute at which it shuts,
@@ -108,7 +109,7 @@
 /* Codes. */
 #define LEGBARO_OK 0
 #define LEGBARO_WRONG_LENGTH 1        /* a buffer has another length than the call asks */
-#define LEGBARO_WRONG_HEADER 2        /* length field or version of the card or message is wrong, or not the card's size; ask on version 1 or 2 */
+#define LEGBARO_WRONG_HEADER 2        /* a card or message of no version, or of another size than its version has; ask in version 1 or 2 */
 #define LEGBARO_OUT_OF_LIMITS 3       /* a field of card, message or plan, or a number lent, is outside its limits */
 #define LEGBARO_NO_SUCH_BLOCK 4       /* the block number, or one in a batch, is 0 or above n */
 #define LEGBARO_FILE_FULL 5           /* append or load that would make n more than LEGBARO_MOST_BLOCKS */

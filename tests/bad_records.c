@@ -82,8 +82,8 @@ static void fetch_again(struct buffer *table, const struct buffer *sound, uint64
     memcpy(table->bytes + at, sound->bytes + at, sound->length - at);
 }
 
-/* Expects of an accepted change, asked or not, what the same change makes of the sound table, and spent records, damaged or not, as they were
- * lent. */
+/* Expects of an accepted change, asked or not, what the same change makes of the sound table, and spent records, damaged or not, as they
+ * were lent. */
 static void expect_mended(const struct call *call, const struct call *sound, const struct buffer *lent, uint64_t next)
 {
     size_t spent = (next - 1) * LEGBARO_RECORD_BYTES;

@@ -222,7 +222,8 @@ static void take_drop(struct book *book)
     book->numbers.pending = book->numbers.pending_n = 0;
 }
 
-/* "Each adds 1 to ctr": where nothing was dropped since the last change. "A one-step change, load or batch too, is ask and commit together" */
+/* "Each adds 1 to ctr", where nothing was dropped since the last change: "A one-step change, load or batch too, is ask and commit
+ * together" */
 static void take_change(struct book *book, const struct call *call)
 {
     change_blocks(book, call);

@@ -106,8 +106,8 @@ static const struct {
 #define MARKED (IN_VERSION(LEGBARO_WITH_MARKS) | TWO_STEPS)
 
 /* Values with a meaning of their own: the token before next, whatever that is, for CARD_OPEN; for what is pending nothing, the last counter
- * issued with as many blocks as there are, one of these alone, and with another counter or number of blocks; for the length of a buffer none,
- * one byte less, one byte more, one item more than a batch may have, and the other size of a card. */
+ * issued with as many blocks as there are, one of these alone, and another counter or number of blocks; for the length of a buffer none, one
+ * byte less, one byte more, one item more than a batch may have, and the other size of a card. */
 #define BEFORE_NEXT UINT64_MAX
 enum { NOTHING, LAST_ISSUED, COUNTER_ALONE, BLOCKS_ALONE, BELOW_LAST, ABOVE_LAST, FEWER_BLOCKS, TOO_MANY_BLOCKS };
 enum { NO_BYTES, ONE_LESS, ONE_MORE, ONE_ITEM_TOO_MANY, OTHER_CARD };

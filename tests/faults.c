@@ -6,9 +6,9 @@
 #include "groups.h"
 #include "hours.h"
 
-/* Three files of one version on which only a fault turns a call away, as far as the version goes. On `changing`, for changes, asks and draws,
- * token 1 is spent; on `judging`, for judgings, causes and proofs, token 2 is drawn; on `settling`, for commits and drops, a load is pending
- * in version 3. */
+/* Three files of one version on which only a fault turns a call away, as far as the version goes. On `changing`, for changes, asks and
+ * draws, token 1 is spent; on `judging`, for judgings, causes and proofs, token 2 is drawn; on `settling`, for commits and drops, a load is
+ * pending in version 3. */
 static struct file changing, judging, settling;
 static uint64_t version;
 

@@ -3,8 +3,8 @@
  *
  *   --seed N    another seed than the fixed one
  *   --lists N   how many random lists
- *   --exact     for a run under a memory checker: buffers without guard bytes, a part of the cases where there are many, no large files, no look
- *               at a stack
+ *   --exact     for a run under a memory checker: buffers without guard bytes, a part of the cases where there are many, no large files,
+ *               no look at a stack
  */
 #include "tests.h"
 

@@ -16,8 +16,8 @@ static int is_size(size_t length)
     return length == LEGBARO_CARD_BYTES || length == LEGBARO_TWO_STEP_CARD_BYTES;
 }
 
-/* Calls of a kind with a card of every length, with the length field as it is or as the length would have it: 1 for lengths that no card has,
- * 2 for the other one. */
+/* Calls of a kind with a card of every length, with the length field as it is or as the length would have it: 1 for lengths that no card
+ * has, 2 for the other version's. */
 static void every_size(const struct file *file, enum kind kind)
 {
     struct call own = file_call(file, kind), again = call_copy(&own);

@@ -71,8 +71,8 @@ uint64_t legbaro_judge(const uint8_t *master, size_t master_length,
  *                           belong to the file
  *   LEGBARO_CAUSE_NAME      this answers another message, or for another file, or has another token's record: answer the message drawn
  *                           last, from this file's table
- *   LEGBARO_CAUSE_COUNTER   the table is from before the last change, or from a change that was not taken or was dropped: use the table that
- *                           stands, which is the one sent last or, of changes in two steps, the one committed last
+ *   LEGBARO_CAUSE_COUNTER   the table is from before the last change, or from a change that was not taken or was dropped: use the table
+ *                           that stands, which is the one sent last or, of changes in two steps, the one committed last
  *   LEGBARO_CAUSE_TAG       the token's record was altered: use a copy of the table that stands. Where the replies for every file have this
  *                           cause, the owner has lent another master
  *   LEGBARO_CAUSE_DIGEST    the record is sound, and a block or a mark in the rows drawn is not the file's, or the digest was altered: the

@@ -5,8 +5,8 @@
  *
  *   master     LEGBARO_MASTER_BYTES
  *   card       LEGBARO_CARD_BYTES, or in version 3 LEGBARO_TWO_STEP_CARD_BYTES; written
- *   table      t * LEGBARO_RECORD_BYTES: the standing table. In one step it is written: every unused record, which is every one from next to
- *              t, is sealed again at the new counter, whether its token covers what changes or not. Spent records keep their bytes
+ *   table      t * LEGBARO_RECORD_BYTES: the standing table. In one step it is written: every unused record, which is every one from next
+ *              to t, is sealed again at the new counter, whether its token covers what changes or not. Spent records keep their bytes
  *
  * The new counter is the last one issued and 1 more, and becomes the last one issued; in versions 1 and 2 the last one issued is the
  * counter. With LEGBARO_BAD_RECORD comes the lowest unused token whose record does not open: every unused record below it opens. Where the
@@ -133,7 +133,8 @@ uint64_t legbaro_batch(const uint8_t *master, size_t master_length,
 /*
  * Ask: the same five changes, each asked. All arguments are those of the change in one step, and behind the table:
  *
- *   second     t * LEGBARO_RECORD_BYTES, written: the table after the change. Spent records are copied, unused ones sealed at the new counter
+ *   second     t * LEGBARO_RECORD_BYTES, written: the table after the change. Spent records are copied, unused ones sealed at the new
+ *              counter
  *
  * The card is written too: the last counter issued, and what is pending. The table, n and the counter stay as they are, byte for byte, and
  * so do the file's blocks, until the commit. Store the card where a crash can't lose it before the second table leaves the house. An ask
