@@ -101,32 +101,48 @@ static void both_refused(struct call change, uint64_t number)
     call_finish(&ask, number, "asked");
 }
 
+/* A bit flipped in each unused record. */
+static void with_bad_records(const struct file *file, enum kind kind)
+{
+    for (uint64_t token = file->book.numbers.next; token <= T; token++) {
+        struct call change = file_call(file, kind);
+        buffer_flip(&change.lent[TABLE], 8 * (token - 1) * LEGBARO_RECORD_BYTES + chance_below(8 * LEGBARO_RECORD_BYTES));
+        both_refused(change, LEGBARO_BAD_RECORD + 256 * token);
+    }
+}
+
+/* Of an update or a deletion, a block that there is not, and a mark that is none. */
+static void with_bad_arguments(const struct file *file, enum kind kind)
+{
+    struct call change = file_call(file, kind);
+    change.m = N + 1;
+    both_refused(change, LEGBARO_NO_SUCH_BLOCK);
+    change = file_call(file, kind);
+    change.lent[MARKS].bytes[0] = 2;
+    both_refused(change, LEGBARO_BAD_MARK);
+}
+
+/* Every change of a file that takes none. */
+static void all_refused(const struct file *file, uint64_t code)
+{
+    for (enum kind kind = UPDATE; kind <= BATCH; kind++)
+        both_refused(file_call(file, kind), code);
+}
+
 static void same_refusals(void)
 {
     group_begin("an ask is turned away as the change in one step is");
     struct file file = file_set_up(LEGBARO_TWO_STEPS, B, D, D, T, N);
     audit(&file);
     for (enum kind kind = UPDATE; kind <= BATCH; kind++)
-        for (uint64_t token = 2; token <= T; token++) {
-            struct call change = file_call(&file, kind);
-            buffer_flip(&change.lent[TABLE], 8 * (token - 1) * LEGBARO_RECORD_BYTES + chance_below(8 * LEGBARO_RECORD_BYTES));
-            both_refused(change, LEGBARO_BAD_RECORD + 256 * token);
-        }
-    for (enum kind kind = UPDATE; kind <= DELETE; kind++) {
-        struct call change = file_call(&file, kind);
-        change.m = N + 1;
-        both_refused(change, LEGBARO_NO_SUCH_BLOCK);
-        change = file_call(&file, kind);
-        change.lent[MARKS].bytes[0] = 2;
-        both_refused(change, LEGBARO_BAD_MARK);
-    }
+        with_bad_records(&file, kind);
+    with_bad_arguments(&file, UPDATE);
+    with_bad_arguments(&file, DELETE);
     file_do(&file, DRAW);
-    for (enum kind kind = UPDATE; kind <= BATCH; kind++)
-        both_refused(file_call(&file, kind), LEGBARO_TOKEN_OPEN);
+    all_refused(&file, LEGBARO_TOKEN_OPEN);
     file_do(&file, JUDGE);
     file_do(&file, ASK_APPEND);
-    for (enum kind kind = UPDATE; kind <= BATCH; kind++)
-        both_refused(file_call(&file, kind), LEGBARO_CHANGE_PENDING);
+    all_refused(&file, LEGBARO_CHANGE_PENDING);
     file_end(&file);
     group_end();
 }

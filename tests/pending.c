@@ -35,21 +35,22 @@ static void every_size(const struct file *file, enum kind kind)
     call_free(&again);
 }
 
-/* At set-up the other version's size is the later 1, behind 3. */
+/* A set-up with a card of some length. */
+static void size_at_set_up(uint64_t version, uint64_t r, size_t length, uint64_t code)
+{
+    struct call call = file_set_up_call(version, B, D, r, T, N);
+    buffer_resize(&call.lent[CARD], length);
+    call_finish(&call, code, "a card's size at set-up");
+}
+
+/* At set-up the other version's size is the later 1: a number outside its limits, r above d, comes before. */
 static void sizes_at_set_up(uint64_t version)
 {
-    for (size_t length = 0; length <= LONGEST_CARD; length++)
-        for (int limits = 0; limits < 2; limits++) {
-            struct call call = file_set_up_call(version, B, D, limits ? D + 1 : R, T, N);
-            size_t size = call.lent[CARD].length;
-            buffer_resize(&call.lent[CARD], length);
-            call_finish(&call,
-                        !is_size(length) ? LEGBARO_WRONG_LENGTH
-                        : limits         ? LEGBARO_OUT_OF_LIMITS
-                        : length == size ? LEGBARO_OK
-                                         : LEGBARO_WRONG_LENGTH,
-                        "a card's size at set-up");
-        }
+    size_t own = version == LEGBARO_TWO_STEPS ? LEGBARO_TWO_STEP_CARD_BYTES : LEGBARO_CARD_BYTES;
+    for (size_t length = 0; length <= LONGEST_CARD; length++) {
+        size_at_set_up(version, R, length, length == own ? LEGBARO_OK : LEGBARO_WRONG_LENGTH);
+        size_at_set_up(version, D + 1, length, is_size(length) ? LEGBARO_OUT_OF_LIMITS : LEGBARO_WRONG_LENGTH);
+    }
 }
 
 static void sizes(uint64_t version)
