@@ -67,6 +67,7 @@ void compare(uint64_t (*run)(struct call *), const struct call *call)
 {
     struct call copy = call_copy(call);
     copy.m = 1;
+    make_ready(&copy);
     expect(call_compare_by(run, &copy) == LEGBARO_OK, "%s: accepted", call_name(call->kind));
     call_free(&copy);
 }
