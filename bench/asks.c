@@ -12,7 +12,6 @@ static const struct row {
     uint64_t B, d, r, t;
     double goal;
 } rows[] = {
-    {UPDATE, 64, 4096, 64, 64, 1.05},
     {UPDATE, 64, 4096, 64, 1024, 1.05},
     {LOAD, 1024, 5000, 460, 8, 1.05},
 };
