@@ -162,13 +162,23 @@ static void expect_cause(const struct file *file, const struct buffer *table, co
     call_free(&proof);
 }
 
-/* After a drop the standing table is the one to prove from; after a commit the asked one, and blocks that took the change in. */
+/* A change, asked or in one step, on a table that does not stand: no unused record opens. */
+static void expect_bad_table(const struct file *file, const struct buffer *table)
+{
+    struct call change = file_call(file, UPDATE);
+    memcpy(change.lent[TABLE].bytes, table->bytes, table->length);
+    both_refused(change, LEGBARO_BAD_RECORD + 256 * file->book.numbers.next);
+}
+
+/* After a drop the standing table is the one to prove from and to change; after a commit the asked one, and blocks that took the change
+ * in. */
 static void host_holds(enum kind ask)
 {
     struct file file = file_set_up(LEGBARO_TWO_STEPS, B, D, D, T, N);
     file_do(&file, ask);
     struct buffer dropped = buffer_copy(&file.asked);
     file_do(&file, DROP);
+    expect_bad_table(&file, &dropped);
     file_do(&file, DRAW);
     expect_cause(&file, &file.table, NULL, 0);
     expect_cause(&file, &dropped, NULL, LEGBARO_CAUSE_COUNTER);
@@ -177,6 +187,7 @@ static void host_holds(enum kind ask)
     file_do(&file, ask);
     expect(!buffer_same(&file.asked, &dropped), "another table than the dropped one");
     file_do(&file, COMMIT);
+    expect_bad_table(&file, &before);
     file_do(&file, DRAW);
     expect_cause(&file, &file.table, NULL, 0);
     expect_cause(&file, &before, NULL, LEGBARO_CAUSE_COUNTER);
