@@ -1,8 +1,8 @@
 # make week               one file's week on real files, and a month in one load, told step by step: examples/
-# make lib                the archive and its header in target/legbaro: code for plain x86-64, with AVX2 and with AVX-512, and a choice between them
+# make lib                the archive and its headers in target/legbaro: code for plain x86-64, with AVX2 and with AVX-512, and a choice between them
 # make lib CPU=NAME       the archive with one code alone, in target/legbaro-NAME; NAME is x86-64, avx2 or avx512
 #                         CPU=NAME goes with week, install and compare too
-# make install PREFIX=    header, archive and pkg-config file below PREFIX, /usr/local where none is given
+# make install PREFIX=    headers, archive and pkg-config file below PREFIX, /usr/local where none is given
 # make test               the gate: proves every crate, tries the edits that must be refused, runs the programs and the C tests
 # make compare            the C tests alone: the library against the second implementation
 # make chosen             prints which code the archive takes on this processor
@@ -17,6 +17,7 @@ CPU ?=
 MODULE := target/module
 LIB := target/legbaro$(CPU:%=-%)
 OUT := target/c$(CPU:%=-%)
+HEADERS := $(patsubst include/%,$(LIB)/%,$(wildcard include/*.h include/*/*.h))
 COMPILE = $(CC) -std=c99 -pedantic -Wall -Wextra $(CFLAGS) -I$(LIB)
 LINK = -L$(LIB) -llegbaro
 SHARED := $(wildcard tests/second_*.c) $(addprefix tests/,book.c calls.c files.c buffers.c chance.c groups.c hours.c)
@@ -24,12 +25,12 @@ SHARED := $(wildcard tests/second_*.c) $(addprefix tests/,book.c calls.c files.c
 week: $(OUT)/week
 	@$(OUT)/week
 
-$(OUT)/week: $(wildcard examples/*.c examples/*.h) $(LIB)/liblegbaro.a $(LIB)/legbaro.h
+$(OUT)/week: $(wildcard examples/*.c examples/*.h) $(LIB)/liblegbaro.a $(HEADERS)
 	@tools/needs cc
 	@mkdir -p $(OUT)
 	$(COMPILE) $(filter %.c,$^) -o $@ $(LINK)
 
-lib: $(LIB)/liblegbaro.a $(LIB)/legbaro.h
+lib: $(LIB)/liblegbaro.a $(HEADERS)
 	@echo "$(LIB)/liblegbaro.a: $$(wc -c < $(LIB)/liblegbaro.a) bytes"
 
 $(MODULE)/legbaro.ll: crates.txt $(shell find crates -type f) tools/module
@@ -38,11 +39,12 @@ $(MODULE)/legbaro.ll: crates.txt $(shell find crates -type f) tools/module
 $(LIB)/liblegbaro.a: $(MODULE)/legbaro.ll tools/archive tools/choose.c tools/processors tools/wide
 	tools/archive $(MODULE) $@ $(CPU)
 
-$(LIB)/legbaro.h: include/legbaro.h
+$(HEADERS): $(LIB)/%: include/%
 	install -D -m 644 $< $@
 
 install: lib
-	install -D -m 644 $(LIB)/legbaro.h $(DESTDIR)$(PREFIX)/include/legbaro.h
+	install -D -m 644 -t $(DESTDIR)$(PREFIX)/include $(LIB)/legbaro.h
+	install -D -m 644 -t $(DESTDIR)$(PREFIX)/include/legbaro $(LIB)/legbaro/*.h
 	install -D -m 644 $(LIB)/liblegbaro.a $(DESTDIR)$(PREFIX)/lib/liblegbaro.a
 	install -d $(DESTDIR)$(PREFIX)/lib/pkgconfig
 	sed 's|@PREFIX@|$(abspath $(PREFIX))|' legbaro.pc.in > $(DESTDIR)$(PREFIX)/lib/pkgconfig/legbaro.pc
@@ -53,7 +55,7 @@ test:
 compare: $(OUT)/tests
 	@$(OUT)/tests
 
-$(OUT)/tests: $(wildcard tests/*.c tests/*.h) $(LIB)/liblegbaro.a $(LIB)/legbaro.h
+$(OUT)/tests: $(wildcard tests/*.c tests/*.h) $(LIB)/liblegbaro.a $(HEADERS)
 	@tools/needs cc libcrypto
 	@mkdir -p $(OUT)
 	$(COMPILE) -pthread $(filter %.c,$^) -o $@ $(LINK) -lcrypto
@@ -73,7 +75,7 @@ bench: $(OUT)/bench
 headline: $(OUT)/bench
 	@$(OUT)/bench --headline
 
-$(OUT)/bench: $(wildcard bench/*.c bench/*.h) $(SHARED) $(wildcard tests/*.h) $(LIB)/liblegbaro.a $(LIB)/legbaro.h
+$(OUT)/bench: $(wildcard bench/*.c bench/*.h) $(SHARED) $(wildcard tests/*.h) $(LIB)/liblegbaro.a $(HEADERS)
 	@tools/needs cc libcrypto
 	@mkdir -p $(OUT)
 	$(COMPILE) -Itests -I$(MODULE) $(filter %.c,$^) -o $@ $(LINK) -lcrypto

@@ -1,7 +1,7 @@
 /*
- * Times set-up, proof, update, load and batch by each code of the archive and by the second implementation over libcrypto, and a load or a
- * batch beside the calls in whose place it stands; prints tables that can be pasted into docs/PERFORMANCE.md. What each code writes is
- * compared with the second implementation first. A code that the processor can't run is left out.
+ * Times set-up, proof, update, load and batch by each code of the archive and by the second implementation over libcrypto, and a load, a
+ * batch or an ask beside the calls in whose place it stands; prints tables that can be pasted into docs/PERFORMANCE.md. What each code
+ * writes is compared with the second implementation first. A code that the processor can't run is left out.
  *
  * libcrypto uses the processor's SHA instructions where it has them; a helper shows what it does without them. In each row all alternate, and
  * the best of each counts.
@@ -10,6 +10,7 @@
  *   --headline   one great set-up in place of the tables, whole: as the archive chooses, by the plain code, and by the second implementation
  */
 #define _XOPEN_SOURCE 700
+#include "asks.h"
 #include "batches.h"
 #include "chance.h"
 #include "codes.h"
@@ -214,6 +215,7 @@ static void print_tables(const char *program, int only_beside)
         print_measures(program);
     print_loads();
     print_batches();
+    print_asks();
     print_proofs();
     putchar('\n');
     group_end();

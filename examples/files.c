@@ -2,6 +2,7 @@
 #define _XOPEN_SOURCE 700
 #include "files.h"
 
+#include <fcntl.h>
 #include <stdio.h>
 #include <stdlib.h>
 #include <sys/stat.h>
@@ -82,6 +83,27 @@ void add_to_file(const char *name, const void *bytes, size_t length)
     write_in_mode(name, "ab", bytes, length);
 }
 
+/* Waits until what was written to a file, or the names in a folder, are on the disk. */
+static void flush(const char *name)
+{
+    int opened = open(name, O_RDONLY);
+    if (opened < 0 || fsync(opened) != 0 || close(opened) != 0)
+        stop("store", name);
+}
+
+/* The bytes are on the disk before the file takes the other's name, and the name is before anything else is done. */
+void store_file(const char *folder, const char *name, const void *bytes, size_t length)
+{
+    char path[64], beside[64];
+    snprintf(path, sizeof path, "%s/%s", folder, name);
+    snprintf(beside, sizeof beside, "%s/%s-new", folder, name);
+    write_file(beside, bytes, length);
+    flush(beside);
+    if (rename(beside, path) != 0)
+        stop("write", path);
+    flush(folder);
+}
+
 void resize_file(const char *name, size_t length)
 {
     if (truncate(name, (off_t)length) != 0)
@@ -112,9 +134,9 @@ void make_folders(const char *name)
 
 void remove_folders(const char *name)
 {
-    static const char *const names[] = {"owner/master", "owner/card",         "owner/table", "owner/plan", "owner",
-                                        "host/blocks",  "host/blocks-before", "host/table",  "host/table-before",
-                                        "host/message", "host/reply",         "host/reply-whole", "host/marks",  "host"};
+    static const char *const names[] = {"owner/master", "owner/card",         "owner/table",      "owner/plan",        "owner",
+                                        "host/blocks",  "host/blocks-before", "host/table",       "host/table-before", "host/message",
+                                        "host/reply",   "host/reply-whole",   "host/marks",       "host"};
     for (size_t i = 0; i < sizeof names / sizeof *names; i++)
         remove(names[i]);
     if (chdir("..") != 0 || rmdir(name) != 0)

@@ -28,6 +28,10 @@ size_t size_of(const char *name);
 void write_file(const char *name, const void *bytes, size_t length);
 void add_to_file(const char *name, const void *bytes, size_t length);
 
+/* Puts a file of these bytes in the place of the one of that name in a folder. A crash leaves the one or the other whole, and once this is
+ * done the new one. */
+void store_file(const char *folder, const char *name, const void *bytes, size_t length);
+
 /* Bytes of a file from an offset on: read, and put in the place of others. */
 void read_part(const char *name, size_t offset, struct bytes part);
 void write_part(const char *name, size_t offset, struct bytes part);

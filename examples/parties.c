@@ -71,6 +71,12 @@ uint64_t host_proves(void)
 
 /* ---- The owner: set-up ---- */
 
+/* A card is on the disk before what was sealed with it leaves the house: an older one would seal under the same nonces again. */
+static void store_card(struct bytes card)
+{
+    store_file("owner", "card", LENT(card));
+}
+
 /* Draws are allowed from 21:00 to 6:00 in the morning, and on Sundays from 8:00 to 22:00. */
 static const uint8_t closing_hours[LEGBARO_PLAN_BYTES] = {
     WINDOW(21 * 60, 6 * 60), WINDOW(21 * 60, 6 * 60), WINDOW(21 * 60, 6 * 60), WINDOW(21 * 60, 6 * 60),
@@ -87,15 +93,16 @@ void owner_begins(struct bytes blocks)
 uint64_t owner_sets_up(const struct plan *plan)
 {
     struct bytes master = read_file("owner/master"), blocks = read_file("owner/blocks");
-    struct bytes card = room(LEGBARO_CARD_BYTES), table = room(plan->tokens * LEGBARO_RECORD_BYTES);
+    struct bytes card = room(plan->version == LEGBARO_TWO_STEPS ? LEGBARO_TWO_STEP_CARD_BYTES : LEGBARO_CARD_BYTES);
+    struct bytes table = room(plan->tokens * LEGBARO_RECORD_BYTES);
     struct bytes live = room(blocks.length / plan->block_bytes);
     uint64_t result = legbaro_set_up(LENT(master), (const uint8_t *)plan->id, LEGBARO_ID_BYTES, plan->version, plan->block_bytes,
                                      plan->rows, plan->positions, plan->tokens, live.length, LENT(blocks), LENT(card), LENT(table));
     if (result == LEGBARO_OK) {
-        write_file("owner/card", LENT(card));
+        store_card(card);
         write_file("host/table", LENT(table));
         write_file("host/blocks", LENT(blocks));
-        if (plan->version == LEGBARO_WITH_MARKS)
+        if (plan->version != LEGBARO_WITHOUT_MARKS)
             write_file("host/marks", LENT(live));
     }
     free(live.at);
@@ -137,7 +144,7 @@ static struct hand owner_takes(void)
 static void owner_puts_back(struct hand *hand, uint64_t result)
 {
     if (result == LEGBARO_OK) {
-        write_file("owner/card", LENT(hand->card));
+        store_card(hand->card);
         write_file("host/table", LENT(hand->table));
         wipe("owner/table");
     }
@@ -172,7 +179,7 @@ uint64_t owner_loads(struct bytes blocks)
 /* Room for a mark of the file; none in version 1. */
 static struct bytes room_for_mark(void)
 {
-    return room(in_card(LEGBARO_CARD_VERSION, 1) == LEGBARO_WITH_MARKS ? 1 : 0);
+    return room(in_card(LEGBARO_CARD_VERSION, 1) == LEGBARO_WITHOUT_MARKS ? 0 : 1);
 }
 
 uint64_t owner_updates(uint64_t number, struct bytes block)
@@ -210,7 +217,7 @@ uint64_t owner_deletes(uint64_t number)
 static void write_item(uint8_t *item, const struct correction *correction, uint64_t version, size_t block_bytes)
 {
     struct bytes old = {item + LEGBARO_ITEM_OLD, block_bytes};
-    struct bytes mark = {item + LEGBARO_ITEM_MARK(block_bytes), version == LEGBARO_WITH_MARKS ? 1 : 0};
+    struct bytes mark = {item + LEGBARO_ITEM_MARK(block_bytes), version == LEGBARO_WITHOUT_MARKS ? 0 : 1};
     item[LEGBARO_ITEM_KIND] = correction->block.at ? LEGBARO_ITEM_UPDATE : LEGBARO_ITEM_DELETE;
     for (int i = 0; i < 4; i++)
         item[LEGBARO_ITEM_BLOCK + i] = (uint8_t)(correction->number >> (24 - 8 * i));
@@ -247,6 +254,76 @@ uint64_t owner_corrects(const struct correction *corrections, size_t count)
     return result;
 }
 
+/* ---- The owner: changes in two steps ---- */
+
+/* The card is stored first. The standing table has served, and what was asked is kept until it is committed or dropped. */
+uint64_t owner_asks_append(struct bytes block)
+{
+    struct hand hand = owner_takes();
+    struct bytes second = room(hand.table.length);
+    uint64_t result = legbaro_ask_append(LENT(hand.master), LENT(hand.card), LENT(hand.table), LENT(second), LENT(block));
+    if (result == LEGBARO_OK) {
+        store_card(hand.card);
+        write_file("owner/asked-table", LENT(second));
+        write_file("owner/asked-block", LENT(block));
+        wipe("owner/table");
+    }
+    free(hand.master.at);
+    free(hand.card.at);
+    free(hand.table.at);
+    free(second.at);
+    return result;
+}
+
+void owner_sends_asked(void)
+{
+    copy_file("owner/asked-table", "host/asked-table");
+    copy_file("owner/asked-block", "host/asked-block");
+}
+
+/* Throws away what was asked, at the owner and as far as it came at the host. */
+static void forget_asked(void)
+{
+    static const char *const names[] = {"owner/asked-table", "owner/asked-block", "host/asked-table", "host/asked-block"};
+    for (size_t i = 0; i < sizeof names / sizeof *names; i++)
+        if (is_there(names[i]))
+            wipe(names[i]);
+}
+
+/* Puts the asked table in the place of the standing one, and the block behind the last. */
+static void host_takes_asked(void)
+{
+    struct bytes block = read_file("host/asked-block");
+    copy_file("host/asked-table", "host/table");
+    host_adds(block, block.length);
+    free(block.at);
+}
+
+uint64_t owner_commits(void)
+{
+    struct bytes card = read_file("owner/card");
+    uint64_t result = legbaro_commit(LENT(card));
+    if (result == LEGBARO_OK) {
+        store_card(card);
+        host_takes_asked();
+        forget_asked();
+    }
+    free(card.at);
+    return result;
+}
+
+uint64_t owner_drops(void)
+{
+    struct bytes card = read_file("owner/card");
+    uint64_t result = legbaro_drop(LENT(card));
+    if (result == LEGBARO_OK) {
+        store_card(card);
+        forget_asked();
+    }
+    free(card.at);
+    return result;
+}
+
 /* ---- The owner: audits ---- */
 
 uint64_t owner_draws(const struct moment *now)
@@ -256,7 +333,7 @@ uint64_t owner_draws(const struct moment *now)
     uint64_t result =
         legbaro_draw(LENT(master), LENT(card), LENT(message), LENT(plan), now->year, now->month, now->day, now->minute);
     if (result == LEGBARO_OK) {
-        write_file("owner/card", LENT(card));
+        store_card(card);
         write_file("host/message", LENT(message));
     }
     free(master.at);
@@ -288,7 +365,7 @@ uint64_t owner_judges(void)
 {
     struct bytes master = read_file("owner/master"), card = read_file("owner/card"), reply = read_file("host/reply");
     uint64_t result = legbaro_judge(LENT(master), LENT(card), LENT(reply));
-    write_file("owner/card", LENT(card));
+    store_card(card);
     free(master.at);
     free(card.at);
     free(reply.at);

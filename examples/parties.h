@@ -22,7 +22,7 @@ struct moment {
 /* Gives the owner its key, the week's plan of draws and the first blocks. */
 void owner_begins(struct bytes blocks);
 
-/* Makes card and table from these blocks, and sends table and blocks to the host, and in version 2 a mark for each block. */
+/* Makes card and table from these blocks, and sends table and blocks to the host, and but in version 1 a mark for each block. */
 uint64_t owner_sets_up(const struct plan *plan);
 
 /* Fetches the table's records from a token's on into the owner's copy of the table; the whole table with 1. A change fetches it all where
@@ -45,6 +45,14 @@ struct correction {
 
 /* Corrects blocks together, in one batch: fetches them, and puts the others in their places; the host does the same. */
 uint64_t owner_corrects(const struct correction *corrections, size_t count);
+
+/* Changes in two steps, of a file of version 3. Asks for an append: the card is stored, and the second table is kept with the block and
+ * goes nowhere yet. Sends both to the host, which keeps them beside what stands. Then commits, and the host is told that they stand; or
+ * drops, and both throw them away. */
+uint64_t owner_asks_append(struct bytes block);
+void owner_sends_asked(void);
+uint64_t owner_commits(void);
+uint64_t owner_drops(void);
 
 /* Draws a message and sends it to the host, where the plan allows a draw now; how long to wait for that. */
 uint64_t owner_draws(const struct moment *now);

@@ -35,6 +35,8 @@ void tell(const char *step, uint64_t result, uint64_t expected)
         [LEGBARO_BAD_MARK] = "turned away: no mark of a block",
         [LEGBARO_BAD_TIME] = "turned away: there is no such time",
         [LEGBARO_OUTSIDE_WINDOWS] = "turned away: the plan allows no draw now",
+        [LEGBARO_CHANGE_PENDING] = "turned away: a change is pending",
+        [LEGBARO_NONE_PENDING] = "turned away: no change is pending",
         [LEGBARO_BAD_BATCH] = "turned away: these items are no batch",
     };
     printf("  %-56s %s\n", step, results[LEGBARO_CODE(result)]);
@@ -51,7 +53,7 @@ int surprises(void)
 
 void tell_files(const char *party)
 {
-    static const char *const names[] = {"master", "card", "plan", "blocks", "marks", "table"};
+    static const char *const names[] = {"master", "card", "plan", "blocks", "marks", "table", "asked-table", "asked-block"};
     char name[32];
     printf("  the %s holds:", party);
     for (size_t i = 0; i < sizeof names / sizeof *names; i++) {

@@ -18,6 +18,9 @@ void new_centre(void);
 /* A third car park, which is closed for a day, in a file of each version: closed.c. */
 void closed_days(void);
 
+/* A fourth car park, whose line drops in the middle of a change: steps.c. */
+void dropped_line(void);
+
 /* The samples of so many hours, end to end, counted from a car park's first: which of its bays are taken, a byte for each. */
 struct bytes samples(unsigned bays, unsigned first_hour, unsigned hours);
 

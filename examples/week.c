@@ -1,6 +1,6 @@
 /*
  * One file's week: a car park's occupancy samples go to a storage host, one block a tick, a morning's corrections go there together, and
- * the host is audited. Then a new centre, which sends a month together, and one with closed days.
+ * the host is audited. Then a new centre, which sends a month together, one with closed days, and one that changes its file in two steps.
  *
  * Owner and host are two folders of real files in a temporary folder: parties.h. The program ends with status 0 where every step came out
  * as a planner expects it.
@@ -177,6 +177,7 @@ int main(void)
     first_centre();
     new_centre();
     closed_days();
+    dropped_line();
     if (chdir("/") != 0 || rmdir(folder) != 0)
         stop("remove", folder);
     printf("\n%s\n", surprises() ? "Some steps did not come out as expected." : "Every step came out as expected.");

@@ -82,14 +82,16 @@ static void fetch_again(struct buffer *table, const struct buffer *sound, uint64
     memcpy(table->bytes + at, sound->bytes + at, sound->length - at);
 }
 
-/* Expects of an accepted change what the same change makes of the sound table, and spent records, damaged or not, as they were lent. */
+/* Expects of an accepted change, asked or not, what the same change makes of the sound table, and spent records, damaged or not, as they
+ * were lent. */
 static void expect_mended(const struct call *call, const struct call *sound, const struct buffer *lent, uint64_t next)
 {
     size_t spent = (next - 1) * LEGBARO_RECORD_BYTES;
+    enum role written = is_ask(call->kind) ? SECOND : TABLE;
     expect(buffer_same(&call->lent[CARD], &sound->lent[CARD]), "the card of the change on the sound table");
-    expect(memcmp(call->lent[TABLE].bytes + spent, sound->lent[TABLE].bytes + spent, lent->length - spent) == 0,
+    expect(memcmp(call->lent[written].bytes + spent, sound->lent[written].bytes + spent, lent->length - spent) == 0,
            "the unused records of the change on the sound table");
-    expect(memcmp(call->lent[TABLE].bytes, lent->bytes, spent) == 0, "spent records keep their bytes");
+    expect(memcmp(call->lent[written].bytes, lent->bytes, spent) == 0, "spent records keep their bytes");
 }
 
 /* A change with the records of a set damaged: refused with the lowest unused one, if any, and accepted once the records from that number
@@ -115,24 +117,29 @@ static void damaged_set(const struct held *held, enum kind kind, const struct se
     call_free(&sound);
 }
 
-/* Update, delete, append, load or batch. */
-static enum kind any_change(void)
+/* The last kind of change that a file takes: in version 3 any may be asked. */
+static enum kind last_change(const struct held *held)
 {
-    return (enum kind)(UPDATE + chance_below(BATCH + 1 - UPDATE));
+    return held->file.book.numbers.version == LEGBARO_TWO_STEPS ? ASK_BATCH : BATCH;
+}
+
+static enum kind any_change(const struct held *held)
+{
+    return (enum kind)(UPDATE + chance_below((uint64_t)last_change(held) + 1 - UPDATE));
 }
 
 /* Every set of records of a small file: all of it damaged in each way, and in any way in each change. */
 static void every_set(const struct held *held)
 {
-    uint64_t t = held->file.book.numbers.t;
-    for (unsigned bits = 0; bits < 1u << t; bits++) {
+    uint64_t t = held->file.book.numbers.t, step = t < 3 ? 1 : 1 << (t - 2);
+    for (uint64_t bits = 0; bits < 1u << t; bits = tried_behind(bits, step)) {
         struct set set = {{0}};
         for (uint64_t i = 1; i <= t; i++)
             set.has[i] = bits >> (i - 1) & 1;
         for (int how = 0; how < ANY; how++)
-            damaged_set(held, any_change(), &set, (enum damage)how);
-        for (int kind = UPDATE; kind <= BATCH; kind++)
-            damaged_set(held, (enum kind)kind, &set, ANY);
+            damaged_set(held, any_change(held), &set, (enum damage)how);
+        for (enum kind kind = UPDATE; kind <= last_change(held); kind++)
+            damaged_set(held, kind, &set, ANY);
     }
 }
 
@@ -176,7 +183,7 @@ static void larger_table(uint64_t t, uint64_t spent)
     change(&held);
     for (int i = 0; i < SETS_OF_EACH; i++) {
         struct set set = any_set(t, 1 + chance_below(t));
-        damaged_set(&held, any_change(), &set, ANY);
+        damaged_set(&held, any_change(&held), &set, ANY);
     }
     end(&held);
 }
@@ -184,7 +191,7 @@ static void larger_table(uint64_t t, uint64_t spent)
 static void larger_tables(void)
 {
     group_begin("any set of damaged records in larger tables, fetched again from the number told");
-    for (int i = 0; i < LARGER_FILES; i++) {
+    for (uint64_t i = 0; i < LARGER_FILES; i = tried_behind(i, 8)) {
         uint64_t t = SMALL_T + 1 + chance_below(MOST_T - SMALL_T);
         larger_table(t, chance_below(t / 4 + 1));
     }

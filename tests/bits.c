@@ -1,10 +1,12 @@
 /* Every single-bit change of what the calls read. */
 #include "tests.h"
 
+#include "chance.h"
 #include "files.h"
 #include "groups.h"
 
-enum { B = 28, D = 5, R = 5, T = 3 };
+/* Under a memory checker one bit in so many is flipped. */
+enum { B = 28, D = 5, R = 5, T = 3, BITS = 7 };
 
 /* A call of a kind on the file with one bit of a buffer flipped. Answers its number. */
 static uint64_t with_bit(const struct file *file, enum kind kind, enum role role, size_t bit)
@@ -16,24 +18,33 @@ static uint64_t with_bit(const struct file *file, enum kind kind, enum role role
     return number;
 }
 
-/* Every bit of a card, in every call that reads one. `judging` has a token drawn, `changing` none. */
-static void card_bits(const struct file *changing, const struct file *judging)
+/* Every bit of a file's card, in the calls of some kinds. */
+static void card_bits(const struct file *file, enum kind first, enum kind last)
 {
-    static const enum kind kinds[] = {UPDATE, DELETE, APPEND, LOAD, BATCH, DRAW, JUDGE, CAUSE};
+    for (enum kind kind = first; kind <= last; kind++)
+        for (size_t bit = 0; bit < 8 * file->card.length; bit = tried_behind(bit, BITS))
+            with_bit(file, kind, CARD, bit);
+}
+
+/* In every call that reads a card. `judging` has a token drawn, `settling` in version 3 a change pending, `changing` neither. */
+static void all_card_bits(const struct file *changing, const struct file *judging, const struct file *settling)
+{
     group_begin("every bit of a card, in every call that reads it");
-    for (size_t k = 0; k < sizeof kinds / sizeof *kinds; k++)
-        for (size_t bit = 0; bit < 8 * LEGBARO_CARD_BYTES; bit++)
-            with_bit(kinds[k] == JUDGE || kinds[k] == CAUSE ? judging : changing, kinds[k], CARD, bit);
+    card_bits(changing, UPDATE, ASK_BATCH);
+    card_bits(settling, COMMIT, DROP);
+    card_bits(settling, DRAW, DRAW);
+    card_bits(changing, DRAW, DRAW);
+    card_bits(judging, JUDGE, CAUSE);
     group_end();
 }
 
 /* Every bit of the table: of a spent record none matters, of an unused one each gives code 7 and its number. */
-static void record_bits(const struct file *changing)
+static void record_bits(const struct file *changing, enum kind kind)
 {
-    group_begin("every bit of every token record");
-    for (size_t bit = 0; bit < 8 * T * LEGBARO_RECORD_BYTES; bit++) {
+    group_begin("every bit of every token record, in an %s", call_name(kind));
+    for (size_t bit = 0; bit < 8 * T * LEGBARO_RECORD_BYTES; bit = tried_behind(bit, BITS)) {
         uint64_t i = bit / (8 * LEGBARO_RECORD_BYTES) + 1;
-        uint64_t number = with_bit(changing, UPDATE, TABLE, bit);
+        uint64_t number = with_bit(changing, kind, TABLE, bit);
         expect(number == (i < changing->book.numbers.next ? LEGBARO_OK : LEGBARO_BAD_RECORD + 256 * i), "record %llu, bit %lu",
                (unsigned long long)i, (unsigned long)bit);
     }
@@ -58,7 +69,7 @@ static void item_bits(const struct file *changing)
     static const uint64_t blocks[] = {1, 4, 5};
     group_begin("every bit of a batch");
     struct call batch = file_batch_of(changing, blocks, sizeof blocks / sizeof *blocks);
-    for (size_t bit = 0; bit < 8 * batch.lent[ITEMS].length; bit++) {
+    for (size_t bit = 0; bit < 8 * batch.lent[ITEMS].length; bit = tried_behind(bit, BITS)) {
         struct call call = call_copy(&batch);
         buffer_flip(&call.lent[ITEMS], bit);
         expect(item_number_fits(changing, bit, call_compare(&call)), "bit %lu of the items", (unsigned long)bit);
@@ -72,7 +83,7 @@ static void item_bits(const struct file *changing)
 static void reply_bits(const struct file *judging)
 {
     group_begin("every bit of a reply");
-    for (size_t bit = 0; bit < 8 * LEGBARO_REPLY_BYTES; bit++)
+    for (size_t bit = 0; bit < 8 * LEGBARO_REPLY_BYTES; bit = tried_behind(bit, BITS))
         expect(with_bit(judging, JUDGE, REPLY, bit) == LEGBARO_REJECTED, "a reply with bit %lu flipped is rejected", (unsigned long)bit);
     group_end();
 }
@@ -82,14 +93,14 @@ static void proof_bits(const struct file *judging)
 {
     size_t marks = judging->book.numbers.version == LEGBARO_WITHOUT_MARKS ? 0 : judging->book.numbers.n;
     group_begin("every bit of a message, of the blocks, of the marks and of the table in a proof");
-    for (size_t bit = 0; bit < 8 * marks; bit++)
+    for (size_t bit = 0; bit < 8 * marks; bit = tried_behind(bit, BITS))
         expect(with_bit(judging, PROVE, MARKS, bit) == (bit % 8 == 0 ? LEGBARO_OK : LEGBARO_BAD_MARK), "bit %lu of the marks",
                (unsigned long)bit);
-    for (size_t bit = 0; bit < 8 * LEGBARO_MESSAGE_BYTES; bit++)
+    for (size_t bit = 0; bit < 8 * LEGBARO_MESSAGE_BYTES; bit = tried_behind(bit, BITS))
         with_bit(judging, PROVE, MESSAGE, bit);
-    for (size_t bit = 0; bit < 8 * B * judging->book.numbers.n; bit++)
+    for (size_t bit = 0; bit < 8 * B * judging->book.numbers.n; bit = tried_behind(bit, BITS))
         with_bit(judging, PROVE, BLOCKS, bit);
-    for (size_t bit = 0; bit < 8 * T * LEGBARO_RECORD_BYTES; bit++)
+    for (size_t bit = 0; bit < 8 * T * LEGBARO_RECORD_BYTES; bit = tried_behind(bit, BITS))
         with_bit(judging, PROVE, TABLE, bit);
     group_end();
 }
@@ -98,7 +109,7 @@ static void proof_bits(const struct file *judging)
 static void plan_bits(const struct file *changing)
 {
     group_begin("every bit of a plan");
-    for (size_t bit = 0; bit < 8 * LEGBARO_PLAN_BYTES; bit++) {
+    for (size_t bit = 0; bit < 8 * LEGBARO_PLAN_BYTES; bit = tried_behind(bit, BITS)) {
         struct call wait = file_call(changing, DRAW);
         with_bit(changing, DRAW, PLAN, bit);
         wait.kind = WAIT;
@@ -113,7 +124,7 @@ static void plan_bits(const struct file *changing)
 static void master_bits(const struct file *changing, const struct file *judging)
 {
     group_begin("every bit of the master");
-    for (size_t bit = 0; bit < 8 * LEGBARO_MASTER_BYTES; bit++) {
+    for (size_t bit = 0; bit < 8 * LEGBARO_MASTER_BYTES; bit = tried_behind(bit, BITS)) {
         expect(with_bit(changing, APPEND, MASTER, bit) == LEGBARO_BAD_RECORD + 256 * changing->book.numbers.next,
                "the first unused record does not open");
         expect(with_bit(judging, JUDGE, MASTER, bit) == LEGBARO_REJECTED, "the reply is rejected");
@@ -126,6 +137,10 @@ static void version_bits(uint64_t version)
 {
     group_begin("files of version %llu for the bits", (unsigned long long)version);
     struct file changing = file_set_up(version, B, D, R, T, D), judging = file_set_up(version, B, D, R, T, D);
+    struct file settling = file_set_up(version, B, D, R, T, D);
+    file_do(&settling, UPDATE);
+    if (version == LEGBARO_TWO_STEPS)
+        file_do(&settling, ASK_APPEND);
     file_do(&changing, DRAW);
     file_do(&changing, JUDGE);
     file_do(&changing, APPEND);
@@ -133,8 +148,10 @@ static void version_bits(uint64_t version)
     file_do(&judging, DELETE);
     file_do(&judging, DRAW);
     group_end();
-    card_bits(&changing, &judging);
-    record_bits(&changing);
+    all_card_bits(&changing, &judging, &settling);
+    record_bits(&changing, UPDATE);
+    if (version == LEGBARO_TWO_STEPS)
+        record_bits(&changing, ASK_UPDATE);
     item_bits(&changing);
     plan_bits(&changing);
     reply_bits(&judging);
@@ -142,6 +159,7 @@ static void version_bits(uint64_t version)
     master_bits(&changing, &judging);
     file_end(&changing);
     file_end(&judging);
+    file_end(&settling);
 }
 
 void test_bits(void)

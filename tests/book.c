@@ -41,6 +41,8 @@ void book_end(struct book *book)
     free(book->blocks);
     free(book->marks);
     free(book->spent);
+    free(book->asked_blocks);
+    free(book->asked_marks);
 }
 
 /* Where block m lies. */
@@ -71,14 +73,34 @@ void book_table(const struct book *book, uint8_t *table)
     second_fresh_records(book->key, &book->numbers, book->blocks, book->marks, book->numbers.next, book->numbers.t, table);
 }
 
-/* The edit that a change makes. */
+/* The book as a commit would leave it, on the same room: "makes its ask's table, and its counter and count the standing ones" */
+static struct book committed(const struct book *book)
+{
+    struct book after = *book;
+    after.blocks = book->asked_blocks;
+    after.marks = book->asked_marks;
+    after.asked_blocks = after.asked_marks = NULL;
+    after.numbers.ctr = book->numbers.pending;
+    after.numbers.n = book->numbers.pending_n;
+    after.numbers.pending = after.numbers.pending_n = 0;
+    return after;
+}
+
+void book_asked_table(const struct book *book, uint8_t *table)
+{
+    struct book after = committed(book);
+    book_table(&after, table);
+}
+
+/* The edit that a change makes, asked or in one step. */
 static struct edit edit_of(const struct call *call)
 {
+    enum kind kind = unasked(call->kind);
     static const enum edit_kind kinds[] = {
         [UPDATE] = EDIT_UPDATE, [DELETE] = EDIT_DELETE, [APPEND] = EDIT_APPEND, [LOAD] = EDIT_LOAD, [BATCH] = EDIT_BATCH};
     const struct buffer *old = &call->lent[OLD], *mark = &call->lent[MARKS], *items = &call->lent[ITEMS];
-    const struct buffer *added = &call->lent[call->kind == LOAD ? BLOCKS : NEW];
-    struct edit edit = {.kind = kinds[call->kind],
+    const struct buffer *added = &call->lent[kind == LOAD ? BLOCKS : NEW];
+    struct edit edit = {.kind = kinds[kind],
                         .m = call->m,
                         .old_block = old->bytes,
                         .old_length = old->length,
@@ -96,18 +118,23 @@ static uint64_t turned_away(const struct book *book, const struct call *call)
 {
     struct edit edit;
     struct when when = {call->year, call->month, call->day, call->minute};
-    uint8_t card[LEGBARO_CARD_BYTES];
-    size_t master_length = call->lent[MASTER].length;
+    uint8_t card[LEGBARO_TWO_STEP_CARD_BYTES];
+    size_t master_length = call->lent[MASTER].length, size = second_card_bytes(book->numbers.version);
     book_card(book, card);
     switch (call->kind) {
     case DRAW:
-        return second_draw_fault(master_length, card, sizeof card, call->lent[MESSAGE].length, call->lent[PLAN].bytes,
+        return second_draw_fault(master_length, card, size, call->lent[MESSAGE].length, call->lent[PLAN].bytes,
                                  call->lent[PLAN].length, &when);
     case JUDGE:
-        return second_judge_fault(master_length, card, sizeof card);
+        return second_judge_fault(master_length, card, size);
+    case COMMIT:
+    case DROP:
+        return second_settle_fault(card, size);
     default:
         edit = edit_of(call);
-        return second_change_fault(&edit, master_length, card, sizeof card, table_bytes(book));
+        if (is_ask(call->kind))
+            return second_ask_fault(&edit, master_length, card, size, table_bytes(book), call->lent[SECOND].length);
+        return second_change_fault(&edit, master_length, card, size, table_bytes(book));
     }
 }
 
@@ -148,19 +175,60 @@ static void take_items(struct book *book, const struct buffer *items)
     }
 }
 
-/* "append puts the new block at the end. Each adds 1 to ctr"; "Load appends one or more blocks under one counter step"; a batch "makes one
- * counter step" */
-static void take_change(struct book *book, const struct call *call)
+/* "append puts the new block at the end"; "Load appends one or more blocks" */
+static void change_blocks(struct book *book, const struct call *call)
 {
-    if (call->kind == UPDATE)
+    enum kind kind = unasked(call->kind);
+    if (kind == UPDATE)
         put_block(book, call->m, call->lent[NEW].bytes);
-    else if (call->kind == DELETE)
+    else if (kind == DELETE)
         put_zeros(book, call->m);
-    else if (call->kind == BATCH)
+    else if (kind == BATCH)
         take_items(book, &call->lent[ITEMS]);
     else
-        add_blocks(book, &call->lent[call->kind == LOAD ? BLOCKS : NEW]);
-    book->numbers.ctr++;
+        add_blocks(book, &call->lent[kind == LOAD ? BLOCKS : NEW]);
+}
+
+/* "Every ask takes the last issued plus 1, even after a drop"; "an asked change joins the current blocks at its commit" */
+static void take_ask(struct book *book, const struct call *call)
+{
+    struct card *numbers = &book->numbers;
+    struct book after = *book;
+    after.blocks = resized(NULL, numbers->n * numbers->B);
+    memcpy(after.blocks, book->blocks, numbers->n * numbers->B);
+    after.marks = resized(NULL, numbers->n);
+    memcpy(after.marks, book->marks, numbers->n);
+    change_blocks(&after, call);
+    book->asked_blocks = after.blocks;
+    book->asked_marks = after.marks;
+    numbers->last_issued++;
+    numbers->pending = numbers->last_issued;
+    numbers->pending_n = after.numbers.n;
+}
+
+static void take_commit(struct book *book)
+{
+    free(book->blocks);
+    free(book->marks);
+    *book = committed(book);
+}
+
+/* "a dropped one never" */
+static void take_drop(struct book *book)
+{
+    free(book->asked_blocks);
+    free(book->asked_marks);
+    book->asked_blocks = book->asked_marks = NULL;
+    book->numbers.pending = book->numbers.pending_n = 0;
+}
+
+/* "Each adds 1 to ctr", where nothing was dropped since the last change: "A one-step change, load or batch too, is ask and commit
+ * together" */
+static void take_change(struct book *book, const struct call *call)
+{
+    change_blocks(book, call);
+    book->numbers.last_issued++;
+    book->numbers.ctr = book->numbers.last_issued;
 }
 
 /* "Draw keeps fresh record next as spent, sets open to next, then adds 1 to next" */
@@ -185,8 +253,17 @@ uint64_t book_answer(struct book *book, const struct call *call)
         answer = second_verdict(book->key, &book->numbers, call->lent[REPLY].bytes, call->lent[REPLY].length);
         book->numbers.open = 0;
         break;
+    case COMMIT:
+        take_commit(book);
+        break;
+    case DROP:
+        take_drop(book);
+        break;
     default:
-        take_change(book, call);
+        if (is_ask(call->kind))
+            take_ask(book, call);
+        else
+            take_change(book, call);
     }
     return answer;
 }

@@ -8,6 +8,7 @@
 /* The buffers of each kind of call, a bit for each role, and those among them that it writes. */
 #define BIT(role) (1u << (role))
 #define CHANGE (BIT(MASTER) | BIT(CARD) | BIT(TABLE))
+#define ASK (CHANGE | BIT(SECOND))
 
 static const struct {
     const char *name;
@@ -19,6 +20,13 @@ static const struct {
     [APPEND] = {"append", CHANGE | BIT(NEW), BIT(CARD) | BIT(TABLE)},
     [LOAD] = {"load", CHANGE | BIT(BLOCKS), BIT(CARD) | BIT(TABLE)},
     [BATCH] = {"batch", CHANGE | BIT(ITEMS), BIT(CARD) | BIT(TABLE)},
+    [ASK_UPDATE] = {"ask update", ASK | BIT(OLD) | BIT(MARKS) | BIT(NEW), BIT(CARD) | BIT(SECOND)},
+    [ASK_DELETE] = {"ask delete", ASK | BIT(OLD) | BIT(MARKS), BIT(CARD) | BIT(SECOND)},
+    [ASK_APPEND] = {"ask append", ASK | BIT(NEW), BIT(CARD) | BIT(SECOND)},
+    [ASK_LOAD] = {"ask load", ASK | BIT(BLOCKS), BIT(CARD) | BIT(SECOND)},
+    [ASK_BATCH] = {"ask batch", ASK | BIT(ITEMS), BIT(CARD) | BIT(SECOND)},
+    [COMMIT] = {"commit", BIT(CARD), BIT(CARD)},
+    [DROP] = {"drop", BIT(CARD), BIT(CARD)},
     [DRAW] = {"draw", BIT(MASTER) | BIT(CARD) | BIT(MESSAGE) | BIT(PLAN), BIT(CARD) | BIT(MESSAGE)},
     [JUDGE] = {"judge", BIT(MASTER) | BIT(CARD) | BIT(REPLY), BIT(CARD)},
     [CAUSE] = {"cause", BIT(MASTER) | BIT(CARD) | BIT(REPLY), 0},
@@ -27,7 +35,7 @@ static const struct {
     [WAIT] = {"wait", BIT(PLAN), 0},
 };
 
-static const char *const roles[ROLES] = {"master", "id",        "blocks", "card",    "table", "old block",
+static const char *const roles[ROLES] = {"master", "id",        "blocks", "card",    "table", "second table", "old block",
                                          "marks",  "new block", "items",  "message", "plan",  "reply"};
 
 static unsigned long counts[KINDS][LAST_CODE + 1];
@@ -42,12 +50,40 @@ int call_takes(enum kind kind, enum role role)
     return (kinds[kind].takes & BIT(role)) != 0;
 }
 
+int is_change(enum kind kind)
+{
+    return kind >= UPDATE && kind <= BATCH;
+}
+
+int is_ask(enum kind kind)
+{
+    return kind >= ASK_UPDATE && kind <= ASK_BATCH;
+}
+
+enum kind asked(enum kind change)
+{
+    return is_change(change) ? (enum kind)(change - UPDATE + ASK_UPDATE) : change;
+}
+
+enum kind unasked(enum kind ask)
+{
+    return is_ask(ask) ? (enum kind)(ask - ASK_UPDATE + UPDATE) : ask;
+}
+
 struct call call_copy(const struct call *call)
 {
     struct call other = *call;
     for (int role = 0; role < ROLES; role++)
         other.lent[role] = buffer_copy(&call->lent[role]);
     return other;
+}
+
+struct call call_asked(const struct call *change)
+{
+    struct call ask = call_copy(change);
+    ask.kind = asked(change->kind);
+    ask.lent[SECOND] = buffer_blank(change->lent[TABLE].length);
+    return ask;
 }
 
 void call_free(struct call *call)

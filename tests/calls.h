@@ -5,17 +5,39 @@
 #include "buffers.h"
 #include "legbaro.h"
 
-enum kind { SET_UP, UPDATE, DELETE, APPEND, LOAD, BATCH, DRAW, JUDGE, CAUSE, PROVE, POSITIONS, WAIT, KINDS };
+/* The five changes, then the same five asked. */
+enum kind {
+    SET_UP,
+    UPDATE,
+    DELETE,
+    APPEND,
+    LOAD,
+    BATCH,
+    ASK_UPDATE,
+    ASK_DELETE,
+    ASK_APPEND,
+    ASK_LOAD,
+    ASK_BATCH,
+    COMMIT,
+    DROP,
+    DRAW,
+    JUDGE,
+    CAUSE,
+    PROVE,
+    POSITIONS,
+    WAIT,
+    KINDS
+};
 
 /* The highest code of any call. */
-enum { LAST_CODE = LEGBARO_OUTSIDE_WINDOWS };
+enum { LAST_CODE = LEGBARO_NONE_PENDING };
 
-enum role { MASTER, ID, BLOCKS, CARD, TABLE, OLD, MARKS, NEW, ITEMS, MESSAGE, PLAN, REPLY, ROLES };
+enum role { MASTER, ID, BLOCKS, CARD, TABLE, SECOND, OLD, MARKS, NEW, ITEMS, MESSAGE, PLAN, REPLY, ROLES };
 
 struct call {
     enum kind kind;
     uint64_t version, B, d, r, t, n;   /* of a set-up; positions takes r, d and n */
-    uint64_t m;                        /* the block number of an update or a deletion */
+    uint64_t m;                        /* the block number of an update or a deletion, asked too */
     uint64_t year, month, day, minute; /* of a draw and of a wait */
     struct buffer lent[ROLES];
 };
@@ -26,7 +48,15 @@ const char *call_name(enum kind kind);
 /* Whether calls of a kind are lent a buffer. */
 int call_takes(enum kind kind, enum role role);
 
+/* Whether a kind is a change in one step, or an ask; a change asked, and the change that is asked. Kinds of other calls stay. */
+int is_change(enum kind kind);
+int is_ask(enum kind kind);
+enum kind asked(enum kind change);
+enum kind unasked(enum kind ask);
+
+/* A copy of a call; and of a change, asked, with a second table of the first one's length. */
 struct call call_copy(const struct call *call);
+struct call call_asked(const struct call *change);
 void call_free(struct call *call);
 
 /* Runs the call on its buffers and answers the number that it returns. */

@@ -90,7 +90,7 @@ static void every_bit(const struct file *file)
     struct buffer reply = honest(file);
     expect_cause(file, &reply, 0, "an honest reply");
     for (int p = 0; p < PARTS; p++)
-        for (size_t bit = 8 * parts[p].at; bit < 8 * (parts[p].at + parts[p].length); bit++) {
+        for (size_t bit = 8 * parts[p].at; bit < 8 * (parts[p].at + parts[p].length); bit = tried_behind(bit, 5)) {
             buffer_flip(&reply, bit);
             expect_cause(file, &reply, parts[p].cause, "one bit flipped");
             buffer_flip(&reply, bit);
@@ -102,7 +102,7 @@ static void every_bit(const struct file *file)
 static void every_length(const struct file *file)
 {
     struct buffer sound = honest(file);
-    for (size_t length = 0; length <= 2 * LEGBARO_REPLY_BYTES; length++) {
+    for (size_t length = 0; length <= 2 * LEGBARO_REPLY_BYTES; length = tried_behind(length, 5)) {
         struct buffer reply = buffer_copy(&sound);
         buffer_resize(&reply, length);
         expect_cause(file, &reply, length == LEGBARO_REPLY_BYTES ? 0 : LEGBARO_CAUSE_SIZE, "another length");
@@ -112,7 +112,7 @@ static void every_length(const struct file *file)
 }
 
 /* Alters a byte in each part of a set, and answers the first cause of these. */
-static uint64_t alter(struct buffer *reply, unsigned set)
+static uint64_t alter(struct buffer *reply, uint64_t set)
 {
     uint64_t first = 0;
     for (int p = 0; p < PARTS; p++)
@@ -128,7 +128,7 @@ static void every_set(const struct file *file)
 {
     static const size_t lengths[] = {LEGBARO_REPLY_BYTES, LEGBARO_REPLY_BYTES - 1, LEGBARO_REPLY_BYTES + 1};
     struct buffer sound = honest(file);
-    for (unsigned set = 0; set < 1u << PARTS; set++)
+    for (uint64_t set = 0; set < 1u << PARTS; set = tried_behind(set, 5))
         for (size_t l = 0; l < sizeof lengths / sizeof *lengths; l++) {
             struct buffer reply = buffer_copy(&sound);
             uint64_t first = alter(&reply, set);
@@ -196,7 +196,7 @@ static void wrong_answers(uint64_t version)
 static void random_replies(const struct file *file)
 {
     struct buffer sound = honest(file);
-    for (int i = 0; i < RANDOM_REPLIES; i++) {
+    for (uint64_t i = 0; i < RANDOM_REPLIES; i = tried_behind(i, 5)) {
         struct buffer reply = buffer_copy(&sound);
         if (chance_of(3))
             buffer_resize(&reply, chance_below(2 * LEGBARO_REPLY_BYTES));

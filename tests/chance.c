@@ -1,7 +1,10 @@
 /* See chance.h. */
 #include "chance.h"
 
+#include <string.h>
+
 static uint64_t state;
+static int sparing;
 
 void chance_start(uint64_t seed)
 {
@@ -28,6 +31,18 @@ int chance_of(uint64_t bound)
 
 void chance_bytes(uint8_t *bytes, size_t length)
 {
-    for (size_t i = 0; i < length; i++)
-        bytes[i] = (uint8_t)chance();
+    for (size_t at = 0; at < length; at += sizeof state) {
+        uint64_t eight = chance();
+        memcpy(bytes + at, &eight, length - at < sizeof eight ? length - at : sizeof eight);
+    }
+}
+
+void chance_spare(void)
+{
+    sparing = 1;
+}
+
+uint64_t tried_behind(uint64_t i, uint64_t step)
+{
+    return i + 1 + (sparing ? chance_below(2 * step - 1) : 0);
 }

@@ -13,4 +13,8 @@ uint64_t chance_below(uint64_t bound);
 int chance_of(uint64_t bound);
 void chance_bytes(uint8_t *bytes, size_t length);
 
+/* Which of many numbered cases is tried behind case i: the next one, or after `chance_spare` one further on, `step` on the average. */
+void chance_spare(void);
+uint64_t tried_behind(uint64_t i, uint64_t step);
+
 #endif

@@ -6,9 +6,10 @@
 
 #define CODE(code) (1u << (code))
 #define READS (CODE(LEGBARO_OK) | CODE(LEGBARO_WRONG_LENGTH) | CODE(LEGBARO_WRONG_HEADER) | CODE(LEGBARO_OUT_OF_LIMITS))
-#define CHANGES (READS | CODE(LEGBARO_TOKEN_OPEN) | CODE(LEGBARO_COUNTER_AT_MOST) | CODE(LEGBARO_BAD_RECORD))
+#define CHANGES                                                                                                                \
+    (READS | CODE(LEGBARO_TOKEN_OPEN) | CODE(LEGBARO_CHANGE_PENDING) | CODE(LEGBARO_COUNTER_AT_MOST) | CODE(LEGBARO_BAD_RECORD))
 
-/* The codes of each kind of call, a bit for each. */
+/* The codes of each kind of call, a bit for each; an ask has those of its change. */
 static const unsigned codes[KINDS] = {
     [SET_UP] = CODE(LEGBARO_OK) | CODE(LEGBARO_WRONG_LENGTH) | CODE(LEGBARO_OUT_OF_LIMITS),
     [UPDATE] = CHANGES | CODE(LEGBARO_BAD_MARK) | CODE(LEGBARO_NO_SUCH_BLOCK),
@@ -16,8 +17,10 @@ static const unsigned codes[KINDS] = {
     [APPEND] = CHANGES | CODE(LEGBARO_FILE_FULL),
     [LOAD] = CHANGES | CODE(LEGBARO_NOT_WHOLE_BLOCKS) | CODE(LEGBARO_FILE_FULL),
     [BATCH] = CHANGES | CODE(LEGBARO_BAD_BATCH) | CODE(LEGBARO_BAD_MARK) | CODE(LEGBARO_NO_SUCH_BLOCK),
-    [DRAW] =
-        READS | CODE(LEGBARO_BAD_TIME) | CODE(LEGBARO_OUTSIDE_WINDOWS) | CODE(LEGBARO_TOKEN_OPEN) | CODE(LEGBARO_NO_TOKEN_LEFT),
+    [COMMIT] = READS | CODE(LEGBARO_NONE_PENDING),
+    [DROP] = READS | CODE(LEGBARO_NONE_PENDING),
+    [DRAW] = READS | CODE(LEGBARO_BAD_TIME) | CODE(LEGBARO_OUTSIDE_WINDOWS) | CODE(LEGBARO_TOKEN_OPEN) |
+             CODE(LEGBARO_CHANGE_PENDING) | CODE(LEGBARO_NO_TOKEN_LEFT),
     [JUDGE] = READS | CODE(LEGBARO_NONE_OPEN) | CODE(LEGBARO_REJECTED),
     [CAUSE] = READS | CODE(LEGBARO_NONE_OPEN),
     [PROVE] = READS | CODE(LEGBARO_BAD_MARK),
@@ -30,6 +33,6 @@ void test_codes(void)
     group_begin("each call has returned each of its codes, and no other");
     for (int kind = 0; kind < KINDS; kind++)
         for (unsigned code = LEGBARO_OK; code <= LAST_CODE; code++)
-            expect((call_count(kind, code) > 0) == ((codes[kind] & CODE(code)) != 0), "%s, code %u", call_name(kind), code);
+            expect((call_count(kind, code) > 0) == ((codes[unasked(kind)] & CODE(code)) != 0), "%s, code %u", call_name(kind), code);
     group_end();
 }

@@ -1,7 +1,7 @@
 /* See fault_list.h. */
 #include "fault_list.h"
 
-/* What a fault alters: the length of a buffer, which is named by its role, a number, a field of card, message or items, a
+/* What a fault alters: the length of a buffer, which is named by its role, a number, a field of card, message or items, what is pending, a
  * mark, or record 2. */
 enum target {
     NUMBER_VERSION = ROLES,
@@ -25,6 +25,8 @@ enum target {
     CARD_CTR,
     CARD_NEXT,
     CARD_OPEN,
+    CARD_LAST_ISSUED,
+    CARD_PENDING,
     MESSAGE_LENGTH,
     MESSAGE_VERSION,
     MESSAGE_I,
@@ -65,6 +67,7 @@ static const struct {
     [CARD_CTR] = {CARD, 0, LEGBARO_CARD_COUNTER, 8},
     [CARD_NEXT] = {CARD, 0, LEGBARO_CARD_NEXT, 4},
     [CARD_OPEN] = {CARD, 0, LEGBARO_CARD_OPEN, 4},
+    [CARD_LAST_ISSUED] = {CARD, 0, LEGBARO_CARD_LAST_ISSUED, 8},
     [MESSAGE_LENGTH] = {MESSAGE, 0, 0, 2},
     [MESSAGE_VERSION] = {MESSAGE, 0, 2, 1},
     [MESSAGE_I] = {MESSAGE, 0, 11, 4},
@@ -85,27 +88,37 @@ static const struct {
     [LAST_ITEM_MARK] = {ITEMS, 2, LEGBARO_ITEM_MARK(B), 1},
 };
 
-#define CHANGES (IN(UPDATE) | IN(DELETE) | IN(APPEND) | IN(LOAD) | IN(BATCH))
-#define JUDGING (IN(JUDGE) | IN(CAUSE))
-#define READ_CARD (CHANGES | IN(DRAW) | JUDGING)
-#define WITH_MASTER (IN(SET_UP) | READ_CARD)
-#define NUMBERS (IN(SET_UP) | IN(POSITIONS))
-#define WITH_MARKS (IN(UPDATE) | IN(DELETE) | IN(PROVE))
-#define TIMED (IN(DRAW) | IN(WAIT))
-#define MARKED IN_VERSION(LEGBARO_WITH_MARKS)
+/* A change, in one step or asked. */
+#define EITHER(change) (IN(change) | IN((change) - UPDATE + ASK_UPDATE))
 
-/* Values with a meaning of their own: the token before next, whatever that is, for CARD_OPEN; and for the length of a buffer none,
- * one byte less, one byte more, one item more than a batch may have. */
+#define ASKS (IN(ASK_UPDATE) | IN(ASK_DELETE) | IN(ASK_APPEND) | IN(ASK_LOAD) | IN(ASK_BATCH))
+#define CHANGES (IN(UPDATE) | IN(DELETE) | IN(APPEND) | IN(LOAD) | IN(BATCH) | ASKS)
+#define SETTLING (IN(COMMIT) | IN(DROP))
+#define JUDGING (IN(JUDGE) | IN(CAUSE))
+#define READ_CARD (CHANGES | SETTLING | IN(DRAW) | JUDGING)
+#define WITH_MASTER (IN(SET_UP) | CHANGES | IN(DRAW) | JUDGING)
+#define NUMBERS (IN(SET_UP) | IN(POSITIONS))
+#define ON_BLOCK (EITHER(UPDATE) | EITHER(DELETE))
+#define WITH_MARKS (ON_BLOCK | IN(PROVE))
+#define TIMED (IN(DRAW) | IN(WAIT))
+#define TWO_STEPS IN_VERSION(LEGBARO_TWO_STEPS)
+#define ONE_STEP (IN_VERSION(LEGBARO_WITHOUT_MARKS) | IN_VERSION(LEGBARO_WITH_MARKS))
+#define MARKED (IN_VERSION(LEGBARO_WITH_MARKS) | TWO_STEPS)
+
+/* Values with a meaning of their own: the token before next, whatever that is, for CARD_OPEN; for what is pending nothing, the last counter
+ * issued with as many blocks as there are, one of these alone, and another counter or number of blocks; for the length of a buffer none, one
+ * byte less, one byte more, one item more than a batch may have, and the other size of a card. */
 #define BEFORE_NEXT UINT64_MAX
-enum { NO_BYTES, ONE_LESS, ONE_MORE, ONE_ITEM_TOO_MANY };
+enum { NOTHING, LAST_ISSUED, COUNTER_ALONE, BLOCKS_ALONE, BELOW_LAST, ABOVE_LAST, FEWER_BLOCKS, TOO_MANY_BLOCKS };
+enum { NO_BYTES, ONE_LESS, ONE_MORE, ONE_ITEM_TOO_MANY, OTHER_CARD };
 
 #define TOO_SHORT(kinds, place, role) {kinds, place, LENGTH_OF(role), NO_BYTES}, {kinds, place, LENGTH_OF(role), ONE_LESS}
 #define WRONG_LENGTH(kinds, place, role) TOO_SHORT(kinds, place, role), {kinds, place, LENGTH_OF(role), ONE_MORE}
 
-/* `next` stands before `open`, and lengths are last. */
+/* `next` stands before `open`, what is pending behind other fields of the card, and lengths are last. */
 const struct fault faults[] = {
     {IN(SET_UP), LIMITS, NUMBER_VERSION, 0},
-    {IN(SET_UP), LIMITS, NUMBER_VERSION, 3},
+    {IN(SET_UP), LIMITS, NUMBER_VERSION, LEGBARO_TWO_STEPS + 1},
     {IN(SET_UP), LIMITS, NUMBER_VERSION, 256 + LEGBARO_WITH_MARKS},
     {IN(SET_UP), LIMITS, NUMBER_VERSION, UINT64_MAX},
     {IN(SET_UP), LIMITS, NUMBER_B, 0},
@@ -128,9 +141,9 @@ const struct fault faults[] = {
     {NUMBERS, LIMITS, NUMBER_N, LEGBARO_MOST_BLOCKS + 1},
     {NUMBERS, LIMITS, NUMBER_N, UINT64_MAX},
     {IN(POSITIONS), LIMITS, NUMBER_N, LEGBARO_MOST_ROWS + 1},
-    {IN(UPDATE) | IN(DELETE), BLOCK_NUMBER, NUMBER_M, 0},
-    {IN(UPDATE) | IN(DELETE), BLOCK_NUMBER, NUMBER_M, NOW_N + 1},
-    {IN(UPDATE) | IN(DELETE), BLOCK_NUMBER, NUMBER_M, UINT64_MAX},
+    {ON_BLOCK, BLOCK_NUMBER, NUMBER_M, 0},
+    {ON_BLOCK, BLOCK_NUMBER, NUMBER_M, NOW_N + 1},
+    {ON_BLOCK, BLOCK_NUMBER, NUMBER_M, UINT64_MAX},
     {TIMED, TIME, NUMBER_YEAR, 1999},
     {TIMED, TIME, NUMBER_YEAR, 2100},
     {TIMED, TIME, NUMBER_YEAR, UINT64_MAX},
@@ -147,8 +160,13 @@ const struct fault faults[] = {
     {READ_CARD, HEADER, CARD_LENGTH, 0},
     {READ_CARD, HEADER, CARD_LENGTH, LEGBARO_CARD_BYTES - 3},
     {READ_CARD, HEADER, CARD_LENGTH, LEGBARO_CARD_BYTES},
+    {READ_CARD | TWO_STEPS, HEADER, CARD_LENGTH, LEGBARO_CARD_BYTES - 2},
+    {READ_CARD | ONE_STEP, HEADER, CARD_LENGTH, LEGBARO_TWO_STEP_CARD_BYTES - 2},
     {READ_CARD, HEADER, CARD_VERSION, 0},
-    {READ_CARD, HEADER, CARD_VERSION, 3},
+    {READ_CARD | TWO_STEPS, HEADER, CARD_VERSION, LEGBARO_WITHOUT_MARKS},
+    {READ_CARD | TWO_STEPS, HEADER, CARD_VERSION, LEGBARO_WITH_MARKS},
+    {READ_CARD | ONE_STEP, HEADER, CARD_VERSION, LEGBARO_TWO_STEPS},
+    {READ_CARD, HEADER, CARD_VERSION, LEGBARO_TWO_STEPS + 1},
     {READ_CARD, HEADER, CARD_VERSION, UINT8_MAX},
     {READ_CARD, LIMITS, CARD_B, 0},
     {READ_CARD, LIMITS, CARD_B, LEGBARO_MOST_BLOCK_BYTES + 1},
@@ -161,11 +179,15 @@ const struct fault faults[] = {
     {READ_CARD, LIMITS, CARD_T, LEGBARO_MOST_TOKENS + 1},
     {READ_CARD, LIMITS, CARD_N, 0},
     {READ_CARD, LIMITS, CARD_N, LEGBARO_MOST_BLOCKS + 1},
-    {IN(APPEND) | IN(LOAD), FULL, CARD_N, LEGBARO_MOST_BLOCKS},
-    {IN(LOAD), FULL, CARD_N, LEGBARO_MOST_BLOCKS - LOADED + 1},
+    {EITHER(APPEND) | EITHER(LOAD), FULL, CARD_N, LEGBARO_MOST_BLOCKS},
+    {EITHER(LOAD), FULL, CARD_N, LEGBARO_MOST_BLOCKS - LOADED + 1},
     {READ_CARD, LIMITS, CARD_CTR, UINT64_C(1) + LEGBARO_MOST_COUNTER},
     {READ_CARD, LIMITS, CARD_CTR, UINT64_MAX},
-    {CHANGES, COUNTER, CARD_CTR, LEGBARO_MOST_COUNTER},
+    {CHANGES | ONE_STEP, COUNTER, CARD_CTR, LEGBARO_MOST_COUNTER},
+    {READ_CARD | TWO_STEPS, LIMITS, CARD_LAST_ISSUED, NOW_CTR - 1},
+    {READ_CARD | TWO_STEPS, LIMITS, CARD_LAST_ISSUED, UINT64_C(1) + LEGBARO_MOST_COUNTER},
+    {READ_CARD | TWO_STEPS, LIMITS, CARD_LAST_ISSUED, UINT64_MAX},
+    {CHANGES | TWO_STEPS, COUNTER, CARD_LAST_ISSUED, LEGBARO_MOST_COUNTER},
     {READ_CARD, LIMITS, CARD_NEXT, 0},
     {READ_CARD, LIMITS, CARD_NEXT, T + 2},
     {IN(DRAW), TOKENS_LEFT, CARD_NEXT, T + 1},
@@ -173,10 +195,18 @@ const struct fault faults[] = {
     {JUDGING, LIMITS, CARD_OPEN, 1},
     {CHANGES | IN(DRAW), OPEN_OR_NOT, CARD_OPEN, BEFORE_NEXT},
     {JUDGING, OPEN_OR_NOT, CARD_OPEN, 0},
+    {CHANGES | IN(DRAW) | TWO_STEPS, PENDING_OR_NOT, CARD_PENDING, LAST_ISSUED},
+    {SETTLING | TWO_STEPS, PENDING_OR_NOT, CARD_PENDING, NOTHING},
+    {READ_CARD | TWO_STEPS, LIMITS, CARD_PENDING, COUNTER_ALONE},
+    {READ_CARD | TWO_STEPS, LIMITS, CARD_PENDING, BLOCKS_ALONE},
+    {READ_CARD | TWO_STEPS, LIMITS, CARD_PENDING, BELOW_LAST},
+    {READ_CARD | TWO_STEPS, LIMITS, CARD_PENDING, ABOVE_LAST},
+    {READ_CARD | TWO_STEPS, LIMITS, CARD_PENDING, FEWER_BLOCKS},
+    {READ_CARD | TWO_STEPS, LIMITS, CARD_PENDING, TOO_MANY_BLOCKS},
     {IN(PROVE), HEADER, MESSAGE_LENGTH, 0},
     {IN(PROVE), HEADER, MESSAGE_LENGTH, LEGBARO_MESSAGE_BYTES},
     {IN(PROVE), HEADER, MESSAGE_VERSION, 0},
-    {IN(PROVE), HEADER, MESSAGE_VERSION, 3},
+    {IN(PROVE), HEADER, MESSAGE_VERSION, LEGBARO_TWO_STEPS + 1},
     {IN(PROVE), HEADER, MESSAGE_VERSION, UINT8_MAX},
     {IN(PROVE), LIMITS, MESSAGE_I, 0},
     {IN(PROVE), LIMITS, MESSAGE_I, LEGBARO_MOST_TOKENS + 1},
@@ -191,23 +221,25 @@ const struct fault faults[] = {
     {WITH_MARKS | MARKED, MARK, FIRST_MARK, 2},
     {WITH_MARKS | MARKED, MARK, FIRST_MARK, UINT8_MAX},
     {IN(PROVE) | MARKED, MARK, LAST_MARK, 2},
-    {IN(BATCH), ITEMS_FIT, FIRST_KIND, 0},
-    {IN(BATCH), ITEMS_FIT, FIRST_KIND, 3},
-    {IN(BATCH), ITEMS_FIT, LAST_KIND, 0},
-    {IN(BATCH), ITEMS_FIT, LAST_KIND, UINT8_MAX},
-    {IN(BATCH), BLOCK_NUMBER, FIRST_NUMBER, 0},
-    {IN(BATCH), ITEMS_FIT, FIRST_NUMBER, MIDDLE_ITEM},
-    {IN(BATCH), ITEMS_FIT, MIDDLE_NUMBER, 0},
-    {IN(BATCH), ITEMS_FIT, MIDDLE_NUMBER, UINT32_MAX},
-    {IN(BATCH), ITEMS_FIT, LAST_NUMBER, 0},
-    {IN(BATCH), ITEMS_FIT, LAST_NUMBER, MIDDLE_ITEM},
-    {IN(BATCH), BLOCK_NUMBER, LAST_NUMBER, NOW_N + 1},
-    {IN(BATCH), BLOCK_NUMBER, LAST_NUMBER, UINT32_MAX},
-    {IN(BATCH) | MARKED, ITEM_MARKS, FIRST_ITEM_MARK, 2},
-    {IN(BATCH) | MARKED, ITEM_MARKS, LAST_ITEM_MARK, UINT8_MAX},
+    {EITHER(BATCH), ITEMS_FIT, FIRST_KIND, 0},
+    {EITHER(BATCH), ITEMS_FIT, FIRST_KIND, 3},
+    {EITHER(BATCH), ITEMS_FIT, LAST_KIND, 0},
+    {EITHER(BATCH), ITEMS_FIT, LAST_KIND, UINT8_MAX},
+    {EITHER(BATCH), BLOCK_NUMBER, FIRST_NUMBER, 0},
+    {EITHER(BATCH), ITEMS_FIT, FIRST_NUMBER, MIDDLE_ITEM},
+    {EITHER(BATCH), ITEMS_FIT, MIDDLE_NUMBER, 0},
+    {EITHER(BATCH), ITEMS_FIT, MIDDLE_NUMBER, UINT32_MAX},
+    {EITHER(BATCH), ITEMS_FIT, LAST_NUMBER, 0},
+    {EITHER(BATCH), ITEMS_FIT, LAST_NUMBER, MIDDLE_ITEM},
+    {EITHER(BATCH), BLOCK_NUMBER, LAST_NUMBER, NOW_N + 1},
+    {EITHER(BATCH), BLOCK_NUMBER, LAST_NUMBER, UINT32_MAX},
+    {EITHER(BATCH) | MARKED, ITEM_MARKS, FIRST_ITEM_MARK, 2},
+    {EITHER(BATCH) | MARKED, ITEM_MARKS, LAST_ITEM_MARK, UINT8_MAX},
     {CHANGES, RECORDS, TAG_OF_RECORD_2, 0},
     WRONG_LENGTH(WITH_MASTER, FIXED_SIZE, MASTER),
-    WRONG_LENGTH(WITH_MASTER, FIXED_SIZE, CARD),
+    WRONG_LENGTH(IN(SET_UP) | READ_CARD, FIXED_SIZE, CARD),
+    {READ_CARD, HEADER, LENGTH_OF(CARD), OTHER_CARD},
+    {IN(SET_UP), SIZE, LENGTH_OF(CARD), OTHER_CARD},
     WRONG_LENGTH(IN(SET_UP), FIXED_SIZE, ID),
     WRONG_LENGTH(IN(DRAW) | IN(PROVE), FIXED_SIZE, MESSAGE),
     WRONG_LENGTH(TIMED, FIXED_SIZE, PLAN),
@@ -215,13 +247,14 @@ const struct fault faults[] = {
     WRONG_LENGTH(IN(SET_UP) | IN(PROVE), SIZE, BLOCKS),
     WRONG_LENGTH(IN(SET_UP) | CHANGES, SIZE, TABLE),
     TOO_SHORT(IN(PROVE), SIZE, TABLE),
-    WRONG_LENGTH(IN(UPDATE) | IN(DELETE), SIZE, OLD),
+    WRONG_LENGTH(ASKS, SIZE, SECOND),
+    WRONG_LENGTH(ON_BLOCK, SIZE, OLD),
     TOO_SHORT(WITH_MARKS | MARKED, SIZE, MARKS),
     {WITH_MARKS, SIZE, LENGTH_OF(MARKS), ONE_MORE},
-    WRONG_LENGTH(IN(UPDATE) | IN(APPEND), SIZE, NEW),
-    WRONG_LENGTH(IN(LOAD), WHOLE_BLOCKS, BLOCKS),
-    WRONG_LENGTH(IN(BATCH), ITEMS_FIT, ITEMS),
-    {IN(BATCH), ITEMS_FIT, LENGTH_OF(ITEMS), ONE_ITEM_TOO_MANY},
+    WRONG_LENGTH(EITHER(UPDATE) | EITHER(APPEND), SIZE, NEW),
+    WRONG_LENGTH(EITHER(LOAD), WHOLE_BLOCKS, BLOCKS),
+    WRONG_LENGTH(EITHER(BATCH), ITEMS_FIT, ITEMS),
+    {EITHER(BATCH), ITEMS_FIT, LENGTH_OF(ITEMS), ONE_ITEM_TOO_MANY},
     WRONG_LENGTH(JUDGING, VERDICT, REPLY),
 };
 
@@ -233,13 +266,40 @@ int fault_has(const struct fault *fault, enum kind kind, uint64_t version)
     return (fault->kinds & IN(kind)) && (!versions || fault->kinds & IN_VERSION(version));
 }
 
+enum place fault_at_start(enum kind kind, uint64_t version)
+{
+    if (version == LEGBARO_TWO_STEPS)
+        return NO_FAULT;
+    return is_ask(kind) ? HEADER : kind == COMMIT || kind == DROP ? PENDING_OR_NOT : NO_FAULT;
+}
+
+enum place fault_first(const struct fault *a, const struct fault *b)
+{
+    if (a->place == OPEN_OR_NOT && b->place == PENDING_OR_NOT)
+        return LIMITS;
+    return a->place < b->place ? a->place : b->place;
+}
+
 static void make_length_fault(struct buffer *b, uint64_t value, uint64_t version)
 {
     size_t lengths[] = {[NO_BYTES] = 0,
                         [ONE_LESS] = b->length - 1,
                         [ONE_MORE] = b->length + 1,
-                        [ONE_ITEM_TOO_MANY] = (LEGBARO_MOST_ITEMS + 1) * LEGBARO_ITEM_BYTES(version, B)};
+                        [ONE_ITEM_TOO_MANY] = (LEGBARO_MOST_ITEMS + 1) * LEGBARO_ITEM_BYTES(version, B),
+                        [OTHER_CARD] = LEGBARO_CARD_BYTES + LEGBARO_TWO_STEP_CARD_BYTES - b->length};
     buffer_resize(b, lengths[value]);
+}
+
+/* Puts what is pending into a card of version 3. */
+static void make_pending(struct buffer *card, uint64_t value)
+{
+    uint64_t last = buffer_number(card, LEGBARO_CARD_LAST_ISSUED, 8), n = buffer_number(card, LEGBARO_CARD_BLOCKS, 4);
+    const uint64_t counters[] = {[NOTHING] = 0,         [LAST_ISSUED] = last,    [COUNTER_ALONE] = last, [BLOCKS_ALONE] = 0,
+                                 [BELOW_LAST] = last - 1, [ABOVE_LAST] = last + 1, [FEWER_BLOCKS] = last,  [TOO_MANY_BLOCKS] = last};
+    const uint64_t blocks[] = {[NOTHING] = 0,    [LAST_ISSUED] = n, [COUNTER_ALONE] = 0,    [BLOCKS_ALONE] = n,
+                               [BELOW_LAST] = n, [ABOVE_LAST] = n,  [FEWER_BLOCKS] = n - 1, [TOO_MANY_BLOCKS] = LEGBARO_MOST_BLOCKS + 1};
+    buffer_put_number(card, LEGBARO_CARD_PENDING_COUNTER, 8, counters[value]);
+    buffer_put_number(card, LEGBARO_CARD_PENDING_BLOCKS, 4, blocks[value]);
 }
 
 static void make_field_fault(struct call *call, const struct fault *fault, uint64_t version)
@@ -262,6 +322,8 @@ void fault_make(struct call *call, const struct fault *fault, uint64_t version)
         *numbers[fault->target - NUMBER_VERSION] = fault->value;
     else if (fault->target == TAG_OF_RECORD_2)
         buffer_flip(&call->lent[TABLE], 8 * (2 * LEGBARO_RECORD_BYTES - 1));
+    else if (fault->target == CARD_PENDING)
+        make_pending(&call->lent[CARD], fault->value);
     else
         make_field_fault(call, fault, version);
 }
@@ -278,6 +340,7 @@ uint64_t fault_number(enum place place, enum kind kind)
         [SIZE] = LEGBARO_WRONG_LENGTH,
         [MARK] = LEGBARO_BAD_MARK,
         [OPEN_OR_NOT] = kind == JUDGE || kind == CAUSE ? LEGBARO_NONE_OPEN : LEGBARO_TOKEN_OPEN,
+        [PENDING_OR_NOT] = kind == COMMIT || kind == DROP ? LEGBARO_NONE_PENDING : LEGBARO_CHANGE_PENDING,
         [TOKENS_LEFT] = LEGBARO_NO_TOKEN_LEFT,
         [ITEMS_FIT] = LEGBARO_BAD_BATCH,
         [ITEM_MARKS] = LEGBARO_BAD_MARK,
@@ -287,6 +350,7 @@ uint64_t fault_number(enum place place, enum kind kind)
         [COUNTER] = LEGBARO_COUNTER_AT_MOST,
         [RECORDS] = LEGBARO_BAD_RECORD + 256 * 2,
         [VERDICT] = kind == CAUSE ? LEGBARO_OK + 256 * LEGBARO_CAUSE_SIZE : LEGBARO_REJECTED,
+        [NO_FAULT] = LEGBARO_OK + 256 * (kind == POSITIONS ? POSITIONS_ANSWER : 0),
     };
     return numbers[place];
 }

@@ -7,14 +7,15 @@
 
 #include "calls.h"
 
-/* The files have NOW_N blocks where they are changed. A load has LOADED blocks, a batch has items on the blocks 2, 4 and 6. R × D / N is
- * 3.75. */
-enum { B = 28, D = 5, R = 3, T = 3, N = 4, NOW_N = N + 3, LOADED = 3, POSITIONS_ANSWER = 4 };
+/* The files have NOW_N blocks and the counter NOW_CTR where they are changed; in version 3 two asks were dropped. A load has LOADED blocks,
+ * a batch has items on the blocks 2, 4 and 6. R × D / N is 3.75. */
+enum { B = 28, D = 5, R = 3, T = 3, N = 4, NOW_N = N + 3, NOW_CTR = 2, LOADED = 3, POSITIONS_ANSWER = 4 };
 enum { FIRST_ITEM = 2, MIDDLE_ITEM = 4, LAST_ITEM = 6 };
 
 /* "Order: 1 for buffers of fixed size, 2, 3, 1 for sizes that follow from fields, then 8 or 9, 6, 4, 5, 10, 7", and the verdict or the
  * cause last; a load's 12 "just before 5"; the helper's 13 "after 3"; a batch's 14 "just before 4"; 15 "after the lengths that follow from
- * fields", "in a batch straight after 14"; of times "before everything else" 16, "and after 3 a draw outside every window (17)". */
+ * fields", "in a batch straight after 14"; of times "before everything else" 16, "and after 3 a draw outside every window (17)"; "straight
+ * after 8" 18, and "then a commit or drop with nothing pending (19)". */
 enum place {
     TIME,
     FIXED_SIZE,
@@ -25,6 +26,7 @@ enum place {
     SIZE,
     MARK,
     OPEN_OR_NOT,
+    PENDING_OR_NOT,
     TOKENS_LEFT,
     ITEMS_FIT,
     ITEM_MARKS,
@@ -33,7 +35,8 @@ enum place {
     FULL,
     COUNTER,
     RECORDS,
-    VERDICT
+    VERDICT,
+    NO_FAULT
 };
 
 /* A fault gives a target of its own a value, in calls of some kinds, a bit for each. With the bits of versions too, only files of these
@@ -58,6 +61,12 @@ extern const int fault_count;
 /* Whether a call of a kind on a file of a version may have a fault; and makes it. */
 int fault_has(const struct fault *fault, enum kind kind, uint64_t version);
 void fault_make(struct call *call, const struct fault *fault, uint64_t version);
+
+/* What is wrong with a call of a kind on a file of a version from the start: asks and nothing pending, but in version 3. */
+enum place fault_at_start(enum kind kind, uint64_t version);
+
+/* The first place of two faults. A card with a token open and a change pending is outside its limits. */
+enum place fault_first(const struct fault *a, const struct fault *b);
 
 /* The number that a call of a kind returns with a fault at this place and none at an earlier one. */
 uint64_t fault_number(enum place place, enum kind kind);

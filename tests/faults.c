@@ -6,9 +6,10 @@
 #include "groups.h"
 #include "hours.h"
 
-/* Two files of one version on which only a fault turns a call away. On `changing`, for changes and draws, token 1 is spent; on `judging`,
- * for judgings, causes and proofs, token 2 is drawn. */
-static struct file changing, judging;
+/* Three files of one version on which only a fault turns a call away, as far as the version goes. On `changing`, for changes, asks and
+ * draws, token 1 is spent; on `judging`, for judgings, causes and proofs, token 2 is drawn; on `settling`, for commits and drops, a load is
+ * pending in version 3. */
+static struct file changing, judging, settling;
 static uint64_t version;
 
 static struct file prepared(void)
@@ -18,6 +19,10 @@ static struct file prepared(void)
     file_load(&file, 2);
     file_do(&file, DRAW);
     file_do(&file, JUDGE);
+    for (int asks = 0; version == LEGBARO_TWO_STEPS && asks < 2; asks++) {
+        file_do(&file, ASK_UPDATE);
+        file_do(&file, DROP);
+    }
     return file;
 }
 
@@ -39,7 +44,16 @@ static struct call open_wait(void)
     return call;
 }
 
-/* A call that would be accepted. The table of a proof is just long enough. */
+static struct call faultless(enum kind kind);
+
+static struct call faultless_ask(enum kind kind)
+{
+    struct call change = faultless(unasked(kind)), ask = call_asked(&change);
+    call_free(&change);
+    return ask;
+}
+
+/* A call that would be accepted, as far as the version goes. The table of a proof is just long enough. */
 static struct call faultless(enum kind kind)
 {
     static const uint64_t items[] = {FIRST_ITEM, MIDDLE_ITEM, LAST_ITEM};
@@ -53,6 +67,10 @@ static struct call faultless(enum kind kind)
         return file_load_call(&changing, LOADED);
     if (kind == BATCH)
         return file_batch_of(&changing, items, sizeof items / sizeof *items);
+    if (is_ask(kind))
+        return faultless_ask(kind);
+    if (kind == COMMIT || kind == DROP)
+        return file_call(&settling, kind);
     struct call call = file_call(kind == JUDGE || kind == CAUSE || kind == PROVE ? &judging : &changing, kind);
     if (kind == DRAW)
         at_an_open_hour(&call);
@@ -61,11 +79,18 @@ static struct call faultless(enum kind kind)
     return call;
 }
 
+/* Runs a call with faults of which the first is at this place; the version's may come before. */
+static void finish(struct call *call, enum place place, const char *what)
+{
+    enum place start = fault_at_start(call->kind, version);
+    call_finish(call, fault_number(place < start ? place : start, call->kind), what);
+}
+
 static void one_fault(enum kind kind, const struct fault *fault)
 {
     struct call call = faultless(kind);
     fault_make(&call, fault, version);
-    call_finish(&call, fault_number(fault->place, kind), "its only fault");
+    finish(&call, fault->place, "its only fault");
 }
 
 static void two_faults(enum kind kind, const struct fault *a, const struct fault *b)
@@ -73,14 +98,14 @@ static void two_faults(enum kind kind, const struct fault *a, const struct fault
     struct call call = faultless(kind);
     fault_make(&call, a, version);
     fault_make(&call, b, version);
-    call_finish(&call, fault_number(a->place < b->place ? a->place : b->place, kind), "the first of two faults");
+    finish(&call, fault_first(a, b), "the first of two faults");
 }
 
 static void every_fault(enum kind kind)
 {
     group_begin("every fault of %s alone, version %llu", call_name(kind), (unsigned long long)version);
     struct call call = faultless(kind);
-    call_finish(&call, LEGBARO_OK + 256 * (kind == POSITIONS ? POSITIONS_ANSWER : 0), "no fault");
+    finish(&call, NO_FAULT, "no fault");
     for (int a = 0; a < fault_count; a++)
         if (fault_has(&faults[a], kind, version))
             one_fault(kind, &faults[a]);
@@ -103,7 +128,10 @@ static void version_faults(void)
     group_begin("files of version %llu for the faults", (unsigned long long)version);
     changing = prepared();
     judging = prepared();
+    settling = prepared();
     file_do(&judging, DRAW);
+    if (version == LEGBARO_TWO_STEPS)
+        file_do(&settling, ASK_LOAD);
     group_end();
     for (int kind = 0; kind < KINDS; kind++) {
         every_fault(kind);
@@ -111,6 +139,7 @@ static void version_faults(void)
     }
     file_end(&changing);
     file_end(&judging);
+    file_end(&settling);
 }
 
 void test_faults(void)

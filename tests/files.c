@@ -29,7 +29,7 @@ struct call file_set_up_call(uint64_t version, uint64_t B, uint64_t d, uint64_t 
     call.lent[MASTER] = any_bytes(LEGBARO_MASTER_BYTES);
     call.lent[ID] = any_bytes(LEGBARO_ID_BYTES);
     call.lent[BLOCKS] = any_bytes(n * B);
-    call.lent[CARD] = buffer_blank(LEGBARO_CARD_BYTES);
+    call.lent[CARD] = buffer_blank(second_card_bytes(version));
     call.lent[TABLE] = buffer_blank(t * LEGBARO_RECORD_BYTES);
     return call;
 }
@@ -42,6 +42,7 @@ struct file file_of(const struct call *set_up)
                         .master = buffer_copy(&call.lent[MASTER]),
                         .card = buffer_copy(&call.lent[CARD]),
                         .table = buffer_copy(&call.lent[TABLE]),
+                        .asked = buffer_blank(call.lent[TABLE].length),
                         .message = buffer_blank(LEGBARO_MESSAGE_BYTES)};
     call_free(&call);
     return file;
@@ -61,6 +62,7 @@ void file_end(struct file *file)
     buffer_free(&file->master);
     buffer_free(&file->card);
     buffer_free(&file->table);
+    buffer_free(&file->asked);
     buffer_free(&file->message);
 }
 
@@ -70,7 +72,7 @@ static struct buffer current_blocks(const struct file *file)
     return buffer_of(file->book.blocks, file->book.numbers.n * file->book.numbers.B);
 }
 
-/* The marks from block m on, so many, in version 2; none in version 1. */
+/* The marks from block m on, so many; none in version 1. */
 static struct buffer current_marks(const struct file *file, uint64_t m, uint64_t count)
 {
     return buffer_of(book_mark(&file->book, m), file->book.numbers.version == LEGBARO_WITHOUT_MARKS ? 0 : count);
@@ -145,8 +147,10 @@ struct call file_call(const struct file *file, enum kind kind)
         call.lent[CARD] = buffer_copy(&file->card);
     if (call_takes(kind, TABLE))
         call.lent[TABLE] = buffer_copy(&file->table);
+    if (call_takes(kind, SECOND))
+        call.lent[SECOND] = any_bytes(file->table.length);
     if (call_takes(kind, BLOCKS))
-        call.lent[BLOCKS] = kind == LOAD ? any_bytes((1 + chance_below(A_FEW)) * numbers->B) : current_blocks(file);
+        call.lent[BLOCKS] = unasked(kind) == LOAD ? any_bytes((1 + chance_below(A_FEW)) * numbers->B) : current_blocks(file);
     if (call_takes(kind, OLD))
         call.lent[OLD] = buffer_of(book_block(&file->book, call.m), numbers->B);
     if (call_takes(kind, MARKS))
@@ -191,7 +195,7 @@ struct call file_batch_of(const struct file *file, const uint64_t *blocks, size_
     return batch_call(file, items_of(file, blocks, items));
 }
 
-/* Gives a buffer of the file the bytes that the call left in its own, where the call was lent one of that length. */
+/* Gives a buffer of the file the bytes that a call left in its own, where the call was lent one of that length. */
 static void take_over(struct buffer *held, const struct buffer *left)
 {
     if (!left->bytes || left->length != held->length)
@@ -209,6 +213,10 @@ uint64_t file_run(struct file *file, struct call *call)
     take_over(&file->card, &call->lent[CARD]);
     take_over(&file->table, &call->lent[TABLE]);
     take_over(&file->message, &call->lent[MESSAGE]);
+    if (is_ask(call->kind) && number == LEGBARO_OK)
+        take_over(&file->asked, &call->lent[SECOND]);
+    if (call->kind == COMMIT && number == LEGBARO_OK)
+        take_over(&file->table, &file->asked);
     call_free(call);
     return number;
 }
@@ -246,6 +254,10 @@ void file_expect_book(const struct file *file)
     book_table(&file->book, table.bytes);
     expect(buffer_same(&file->card, &card), "the book's card");
     expect(buffer_same(&file->table, &table), "the book's table");
+    if (file->book.numbers.pending) {
+        book_asked_table(&file->book, table.bytes);
+        expect(buffer_same(&file->asked, &table), "the book's asked table");
+    }
     buffer_free(&card);
     buffer_free(&table);
 }

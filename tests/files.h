@@ -8,6 +8,7 @@
 struct file {
     struct book book;
     struct buffer master, card, table;
+    struct buffer asked;   /* the table of the ask accepted last; blank before the first */
     struct buffer message; /* the one drawn last; blank before the first draw */
 };
 
@@ -22,9 +23,10 @@ struct file file_of(const struct call *set_up);
 struct file file_set_up(uint64_t version, uint64_t B, uint64_t d, uint64_t r, uint64_t t, uint64_t n);
 void file_end(struct file *file);
 
-/* A call on the file with nothing wrong in its arguments: a change has a block number that exists, present bytes and mark, and a random new
- * block, a load a few random blocks, a batch a few items, a draw any plan and any time that it allows, a proof the message drawn last and
- * the current blocks and marks, a judging, or the question for a cause, the reply of such a proof. The state may still turn it away. */
+/* A call on the file with nothing wrong in its arguments: a change, asked or not, has a block number that exists, present bytes and mark,
+ * and a random new block, a load a few random blocks, a batch a few items, an ask any bytes where the second table is to be, a draw any plan
+ * and any time that it allows, a proof the message drawn last and the current blocks and marks, a judging, or the question for a cause,
+ * the reply of such a proof. The state may still turn it away. */
 struct call file_call(const struct file *file, enum kind kind);
 
 /* A load of so many random blocks. */
@@ -36,8 +38,8 @@ struct call file_batch_call(const struct file *file, size_t items);
 struct call file_batch_of(const struct file *file, const uint64_t *blocks, size_t items);
 size_t file_item_at(const struct file *file, size_t item, size_t offset);
 
-/* Runs a change, draw or judging: compared with the second implementation and with the book. The file takes the buffers that it left,
- * and the call is freed. Answers the number. */
+/* Runs a change, ask, commit, drop, draw or judging: compared with the second implementation and with the book. The file takes the buffers
+ * that it left, and with a commit the asked table for its own; the call is freed. Answers the number. */
 uint64_t file_run(struct file *file, struct call *call);
 
 /* `file_run` of `file_call`, of `file_load_call` and of `file_batch_call`, expected to be accepted. */
@@ -45,7 +47,7 @@ void file_do(struct file *file, enum kind kind);
 void file_load(struct file *file, uint64_t blocks);
 void file_batch(struct file *file, size_t items);
 
-/* Expects card and table to be the book's, byte for byte. */
+/* Expects card and table to be the book's, byte for byte, and so the asked table where something is pending. */
 void file_expect_book(const struct file *file);
 
 #endif

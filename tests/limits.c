@@ -6,9 +6,23 @@
 
 #include <string.h>
 
+/* In version 3, a change asked and dropped, and one of each kind asked and committed. */
+static void in_two_steps(struct file *file)
+{
+    if (file->book.numbers.version != LEGBARO_TWO_STEPS)
+        return;
+    file_do(file, ASK_LOAD);
+    file_do(file, DROP);
+    for (int kind = ASK_UPDATE; kind <= ASK_BATCH; kind++) {
+        file_do(file, (enum kind)kind);
+        file_do(file, COMMIT);
+    }
+}
+
 /* Each call once, on a file that accepts them, with the book at the end. */
 static void round_of_calls(struct file *file)
 {
+    in_two_steps(file);
     file_do(file, APPEND);
     file_do(file, LOAD);
     file_do(file, UPDATE);
@@ -91,6 +105,11 @@ static void full(struct file *file)
 {
     refused(file, APPEND, LEGBARO_FILE_FULL);
     load_refused(file, 1, LEGBARO_FILE_FULL);
+    if (file->book.numbers.version == LEGBARO_TWO_STEPS) {
+        refused(file, ASK_APPEND, LEGBARO_FILE_FULL);
+        file_do(file, ASK_UPDATE);
+        file_do(file, COMMIT);
+    }
     file_do(file, UPDATE);
     file_do(file, DELETE);
     last_block_in_batch(file);
@@ -145,14 +164,13 @@ static void most_counter(uint64_t version)
 {
     group_begin("the most counter, version %llu", (unsigned long long)version);
     struct file file = file_set_up(version, 28, 5, 3, 3, 4);
-    file.book.numbers.ctr = LEGBARO_MOST_COUNTER - 1;
+    file.book.numbers.ctr = file.book.numbers.last_issued = LEGBARO_MOST_COUNTER - 1;
     follow_book(&file);
     file_do(&file, APPEND);
-    refused(&file, UPDATE, LEGBARO_COUNTER_AT_MOST);
-    refused(&file, DELETE, LEGBARO_COUNTER_AT_MOST);
-    refused(&file, APPEND, LEGBARO_COUNTER_AT_MOST);
-    refused(&file, LOAD, LEGBARO_COUNTER_AT_MOST);
-    refused(&file, BATCH, LEGBARO_COUNTER_AT_MOST);
+    for (int kind = UPDATE; kind <= BATCH; kind++) {
+        refused(&file, (enum kind)kind, LEGBARO_COUNTER_AT_MOST);
+        refused(&file, asked((enum kind)kind), version == LEGBARO_TWO_STEPS ? LEGBARO_COUNTER_AT_MOST : LEGBARO_WRONG_HEADER);
+    }
     file_do(&file, DRAW);
     file_do(&file, JUDGE);
     file_expect_book(&file);

@@ -1,4 +1,5 @@
-/* Random lists of calls. Each list is run on the library, on the second implementation and on the plain book. */
+/* Random lists of calls. Each list is run on the library, on the second implementation and on the plain book; and no record of a list is
+ * sealed under a nonce that sealed another. */
 #include "tests.h"
 
 #include "chance.h"
@@ -6,7 +7,10 @@
 #include "groups.h"
 #include "hours.h"
 
-enum { LONGEST = 40, MOST_TOKENS = 6, MOST_LOADED = 40 };
+enum { LONGEST = 40, MOST_TOKENS = 6, MOST_LOADED = 40, MOST_NONCES = MOST_TOKENS * (1 + LONGEST) };
+
+/* Where a token record has its counter and its token number. */
+enum { RECORD_COUNTER = 3, RECORD_TOKEN = 11 };
 
 static const uint64_t rows[] = {1, 2, 4, 5, 16, 17};
 static const uint64_t block_bytes[] = {1, 26, 27, 28, 90, 91, 92, 4096};
@@ -72,9 +76,9 @@ static void disturb_hours(struct call *call)
 /* Something wrong in what a list may hold: anything lent but card and table, the master's bytes and a block's present bytes and mark. */
 static void disturb(const struct file *file, struct call *call)
 {
-    static const enum role lent[] = {MASTER, OLD, MARKS, NEW, BLOCKS, ITEMS, MESSAGE, PLAN, REPLY};
+    static const enum role lent[] = {MASTER, SECOND, OLD, MARKS, NEW, BLOCKS, ITEMS, MESSAGE, PLAN, REPLY};
     enum role role = lent[chance_below(COUNT(lent))];
-    if (call->kind == BATCH && chance_of(2))
+    if (unasked(call->kind) == BATCH && chance_of(2))
         disturb_item(file, &call->lent[ITEMS]);
     else if (call->kind == DRAW && chance_of(2))
         disturb_hours(call);
@@ -88,12 +92,15 @@ static void disturb(const struct file *file, struct call *call)
         wrong_length(&call->lent[role]);
 }
 
-/* Which call comes next: a drawn token is mostly judged, and drawing is rarer than changing. */
+/* Which call comes next, of a change whether or not it is asked: a drawn token is mostly judged, what is pending is mostly committed or
+ * dropped, and drawing is rarer than changing. */
 static enum kind next_kind(const struct file *file)
 {
     static const enum kind changes[] = {UPDATE, DELETE, APPEND, LOAD, BATCH};
     if (file->book.numbers.open ? chance_of(2) : chance_of(20))
         return JUDGE;
+    if (file->book.numbers.pending ? !chance_of(4) : chance_of(20))
+        return chance_of(2) ? COMMIT : DROP;
     return chance_of(5) ? DRAW : changes[chance_below(COUNT(changes))];
 }
 
@@ -104,34 +111,74 @@ static uint64_t most_items(const struct file *file)
     return n < LEGBARO_MOST_ITEMS ? n : LEGBARO_MOST_ITEMS;
 }
 
-/* A call of the list with nothing wrong in it. A load or a batch has a few blocks or, at times, many. */
-static struct call next_call(const struct file *file)
+/* A call of the list with nothing wrong in it. A load or a batch has a few blocks or, at times, many. An update may leave its block. */
+static struct call next_in_one_step(const struct file *file)
 {
     enum kind kind = next_kind(file);
     if (kind == LOAD && chance_of(4))
         return file_load_call(file, 1 + chance_below(MOST_LOADED));
     if (kind == BATCH && chance_of(4))
         return file_batch_call(file, 1 + chance_below(most_items(file)));
-    return file_call(file, kind);
+    struct call call = file_call(file, kind);
+    if (kind == UPDATE && chance_of(5))
+        for (size_t i = 0; i < call.lent[NEW].length; i++)
+            call.lent[NEW].bytes[i] = call.lent[OLD].bytes[i];
+    return call;
+}
+
+/* Every second change of a file that takes changes in two steps is asked, and at times one of another file, which is turned away. */
+static struct call next_call(const struct file *file)
+{
+    struct call call = next_in_one_step(file);
+    if (!is_change(call.kind) || !chance_of(file->book.numbers.version == LEGBARO_TWO_STEPS ? 2 : 20))
+        return call;
+    struct call ask = call_asked(&call);
+    call_free(&call);
+    return ask;
+}
+
+/* The nonces under which records of a list were sealed: a counter and a token number each. */
+struct nonces {
+    size_t count;
+    uint64_t counters[MOST_NONCES], tokens[MOST_NONCES];
+};
+
+static int has_sealed(const struct nonces *nonces, uint64_t counter, uint64_t token)
+{
+    for (size_t e = 0; e < nonces->count; e++)
+        if (nonces->counters[e] == counter && nonces->tokens[e] == token)
+            return 1;
+    return 0;
+}
+
+/* Adds those of a table's unused records, and expects them to be new. */
+static void seal_once(struct nonces *nonces, const struct buffer *table, const struct card *numbers)
+{
+    for (uint64_t i = numbers->next; i <= numbers->t; i++) {
+        size_t record = (i - 1) * LEGBARO_RECORD_BYTES;
+        uint64_t counter = buffer_number(table, record + RECORD_COUNTER, 8), token = buffer_number(table, record + RECORD_TOKEN, 4);
+        expect(!has_sealed(nonces, counter, token), "counter %llu and token %llu to seal once", (unsigned long long)counter,
+               (unsigned long long)token);
+        nonces->counters[nonces->count] = counter;
+        nonces->tokens[nonces->count++] = token;
+    }
 }
 
 /* A call of the list. */
-static void step(struct file *file)
+static void step(struct file *file, struct nonces *nonces)
 {
     struct call call = next_call(file);
-    if (call.kind == UPDATE && chance_of(5))
-        for (size_t i = 0; i < call.lent[NEW].length; i++)
-            call.lent[NEW].bytes[i] = call.lent[OLD].bytes[i];
+    enum kind kind = call.kind;
     if (chance_of(4))
         disturb(file, &call);
-    file_run(file, &call);
+    if (file_run(file, &call) == LEGBARO_OK && (is_change(kind) || is_ask(kind)))
+        seal_once(nonces, is_ask(kind) ? &file->asked : &file->table, &file->book.numbers);
 }
 
 /* A call beside the list, on copies: any kind, with some bytes or lengths of any buffer altered. The book knows nothing of it. */
 static void aside(const struct file *file)
 {
-    static const enum kind kinds[] = {UPDATE, DELETE, APPEND, LOAD, BATCH, DRAW, JUDGE, CAUSE, PROVE};
-    struct call call = file_call(file, kinds[chance_below(COUNT(kinds))]);
+    struct call call = file_call(file, (enum kind)(UPDATE + chance_below(PROVE + 1 - UPDATE)));
     for (uint64_t faults = 1 + chance_below(2); faults; faults--) {
         enum role role = (enum role)chance_below(ROLES);
         if (!call_takes(call.kind, role))
@@ -157,10 +204,12 @@ static void list(uint64_t version, uint64_t B, uint64_t d, uint64_t t)
 {
     uint64_t r = chance_of(3) ? d : 1 + chance_below(d);
     struct file file = file_set_up(version, B, d, r, t, first_blocks(d));
+    struct nonces nonces = {.count = 0};
+    seal_once(&nonces, &file.table, &file.book.numbers);
     for (uint64_t calls = chance_below(LONGEST + 1); calls; calls--) {
         if (chance_of(6))
             aside(&file);
-        step(&file);
+        step(&file, &nonces);
     }
     file_expect_book(&file);
     file_end(&file);
@@ -170,10 +219,10 @@ void test_lists(unsigned lists)
 {
     for (size_t i = 0; i < COUNT(rows); i++) {
         unsigned share = lists / COUNT(rows);
-        group_begin("%u random lists of up to %d calls with d = %llu, on both versions", share, LONGEST, (unsigned long long)rows[i]);
+        group_begin("%u random lists of up to %d calls with d = %llu, on all versions", share, LONGEST, (unsigned long long)rows[i]);
         for (unsigned j = 0; j < share; j++) {
             uint64_t round = j / COUNT(block_bytes), t = 1 + round % MOST_TOKENS;
-            uint64_t version = (j + round + round / MOST_TOKENS) % 2 ? LEGBARO_WITHOUT_MARKS : LEGBARO_WITH_MARKS;
+            uint64_t version = FIRST_VERSION + (j + round + round / MOST_TOKENS) % LAST_VERSION;
             list(version, block_bytes[j % COUNT(block_bytes)], rows[i], t);
         }
         group_end();

@@ -38,7 +38,7 @@ static void planned_rows(void)
 {
     static const uint64_t rows[] = {1, 5, 17};
     group_begin("set-ups with fewer, as many and more blocks than rows");
-    for (size_t b = 0; b < COUNT(block_bytes); b++)
+    for (size_t b = 0; b < COUNT(block_bytes); b = tried_behind(b, 5))
         for (size_t i = 0; i < COUNT(rows); i++)
             planned(block_bytes[b], rows[i]);
     group_end();
@@ -59,7 +59,7 @@ static void growing_loads(void)
 {
     static const uint64_t rows[] = {5, 61};
     group_begin("loads of 1 to 40 blocks");
-    for (size_t b = 0; b < COUNT(block_bytes); b++)
+    for (size_t b = 0; b < COUNT(block_bytes); b = tried_behind(b, 6))
         for (size_t i = 0; i < COUNT(rows); i++)
             growing(block_bytes[b], rows[i]);
     group_end();
@@ -71,7 +71,7 @@ static void hundreds(uint64_t B, uint64_t d, uint64_t r)
 {
     static const uint64_t sizes[] = {39, 40, 41, 63, 64, 65, 195, 196, 197, 255, 256, 257, 511, 512, 513, 600, 1201};
     struct file file = file_set_up(any_version(), B, d, r, 2, 1 + chance_below(d));
-    for (size_t i = 0; i < COUNT(sizes); i++)
+    for (size_t i = 0; i < COUNT(sizes); i = tried_behind(i, 4))
         file_load(&file, sizes[i]);
     audit(&file);
     file_expect_book(&file);
@@ -108,7 +108,7 @@ static void loads_of_one(void)
 {
     group_begin("a load of one block writes what an append writes");
     for (size_t b = 0; b < COUNT(block_bytes); b++)
-        for (uint64_t n = 1; n <= 12; n++) {
+        for (uint64_t n = 1; n <= 12; n = tried_behind(n, 6)) {
             struct file file = file_set_up(any_version(), block_bytes[b], 5, 1 + chance_below(5), 3, n);
             one_block(&file);
             audit(&file);
@@ -165,7 +165,7 @@ static void load_and_appends(uint64_t B, uint64_t d, uint64_t r, uint64_t n, uin
 static void loads_and_appends(void)
 {
     group_begin("a load and the same blocks appended one by one are audited alike");
-    for (size_t b = 0; b < COUNT(block_bytes); b++)
+    for (size_t b = 0; b < COUNT(block_bytes); b = tried_behind(b, 5))
         for (uint64_t blocks = 1; blocks <= 33; blocks += 4)
             load_and_appends(block_bytes[b], 7, 1 + chance_below(7), 1 + chance_below(10), blocks);
     group_end();

@@ -3,7 +3,8 @@
  *
  *   --seed N    another seed than the fixed one
  *   --lists N   how many random lists
- *   --exact     buffers without guard bytes, no large files, and no look at a stack: for a run under a memory checker
+ *   --exact     for a run under a memory checker: buffers without guard bytes, a part of the cases where there are many, no large files,
+ *               no look at a stack
  */
 #include "tests.h"
 
@@ -49,8 +50,10 @@ int main(int count, char **words)
     printf("seed %llu\n", (unsigned long long)options.seed);
     chance_start(options.seed);
     second_start();
-    if (options.exact)
+    if (options.exact) {
         buffers_exact();
+        chance_spare();
+    }
     test_permutation();
     test_refusals();
     test_faults();
@@ -60,6 +63,8 @@ int main(int count, char **words)
     test_batches();
     test_versions();
     test_marks();
+    test_asks();
+    test_pending();
     test_causes();
     test_plans();
     test_times();

@@ -1,4 +1,4 @@
-/* Marks: their lengths and values, blocks of zeros beside deleted blocks, and version 2 beside version 1. */
+/* Marks: their lengths and values, blocks of zeros beside deleted blocks, and versions with marks beside version 1. */
 #include "tests.h"
 
 #include "chance.h"
@@ -21,7 +21,7 @@ static void with_length(const struct file *file, enum kind kind, size_t length, 
     call_finish(&call, number, "marks of another length");
 }
 
-/* One mark for a change and n for a proof in version 2, none in version 1. */
+/* One mark for a change and n for a proof, none in version 1. */
 static void lengths(uint64_t version)
 {
     struct file changing = file_set_up(version, B, D, D, T, N), proving = file_set_up(version, B, D, D, T, N);
@@ -43,9 +43,9 @@ static void with_mark(struct call call, enum role role, size_t at, uint64_t mark
 }
 
 /* Every byte as the mark of a change, of an item first, in the middle and last, and of each block in a proof, drawn or not. */
-static void values(void)
+static void values(uint64_t version)
 {
-    struct file changing = file_set_up(LEGBARO_WITH_MARKS, B, D, D, T, N), proving = file_set_up(LEGBARO_WITH_MARKS, B, D, 1, T, N);
+    struct file changing = file_set_up(version, B, D, D, T, N), proving = file_set_up(version, B, D, 1, T, N);
     file_do(&proving, DRAW);
     for (uint64_t mark = 0; mark <= UINT8_MAX; mark++) {
         for (size_t k = 0; k < sizeof singles / sizeof *singles; k++)
@@ -64,7 +64,8 @@ static void lengths_and_values(void)
     group_begin("marks of every length up to twice the blocks, and every byte as a mark");
     for (uint64_t version = FIRST_VERSION; version <= LAST_VERSION; version++)
         lengths(version);
-    values();
+    for (uint64_t version = LEGBARO_WITH_MARKS; version <= LAST_VERSION; version++)
+        values(version);
     group_end();
 }
 
@@ -112,16 +113,18 @@ static void dropped(uint64_t version, uint64_t m, uint8_t mark, uint64_t verdict
     file_end(&file);
 }
 
-/* Version 1 can't tell a closed day from a deleted block; version 2 can, both ways. Other blocks are missed in either. */
+/* Version 1 can't tell a closed day from a deleted block; versions 2 and 3 can, both ways. Other blocks are missed in each. */
 static void closed_days(void)
 {
-    group_begin("a host that drops a live block of zeros is caught in version 2 and not in version 1");
+    group_begin("a host that drops a live block of zeros is caught in versions 2 and 3 and not in version 1");
     dropped(LEGBARO_WITHOUT_MARKS, CLOSED_DAY, LEGBARO_DELETED, LEGBARO_OK);
-    dropped(LEGBARO_WITH_MARKS, CLOSED_DAY, LEGBARO_DELETED, LEGBARO_REJECTED);
-    dropped(LEGBARO_WITH_MARKS, CLOSED_DAY, LEGBARO_LIVE, LEGBARO_OK);
     dropped(LEGBARO_WITHOUT_MARKS, DELETED_BLOCK, LEGBARO_LIVE, LEGBARO_OK);
-    dropped(LEGBARO_WITH_MARKS, DELETED_BLOCK, LEGBARO_LIVE, LEGBARO_REJECTED);
-    dropped(LEGBARO_WITH_MARKS, DELETED_BLOCK, LEGBARO_DELETED, LEGBARO_OK);
+    for (uint64_t version = LEGBARO_WITH_MARKS; version <= LAST_VERSION; version++) {
+        dropped(version, CLOSED_DAY, LEGBARO_DELETED, LEGBARO_REJECTED);
+        dropped(version, CLOSED_DAY, LEGBARO_LIVE, LEGBARO_OK);
+        dropped(version, DELETED_BLOCK, LEGBARO_LIVE, LEGBARO_REJECTED);
+        dropped(version, DELETED_BLOCK, LEGBARO_DELETED, LEGBARO_OK);
+    }
     for (uint64_t version = FIRST_VERSION; version <= LAST_VERSION; version++) {
         dropped(version, 1, LEGBARO_DELETED, LEGBARO_REJECTED);
         dropped(version, N, LEGBARO_LIVE, LEGBARO_REJECTED);
@@ -130,9 +133,9 @@ static void closed_days(void)
 }
 
 /* The other old mark is taken as it is, and then the tokens no longer fit the file. */
-static void wrong_old_mark(enum kind kind, uint64_t m)
+static void wrong_old_mark(uint64_t version, enum kind kind, uint64_t m)
 {
-    struct file file = with_closed_day(LEGBARO_WITH_MARKS);
+    struct file file = with_closed_day(version);
     struct call call = file_call(&file, kind);
     call.m = m;
     memcpy(call.lent[OLD].bytes, book_block(&file.book, m), B);
@@ -147,17 +150,18 @@ static void wrong_old_mark(enum kind kind, uint64_t m)
 static void wrong_old_marks(void)
 {
     group_begin("a wrong old mark is taken, and found by the next audit");
-    for (size_t k = 0; k < sizeof singles / sizeof *singles; k++) {
-        wrong_old_mark(singles[k], 1);
-        wrong_old_mark(singles[k], CLOSED_DAY);
-        wrong_old_mark(singles[k], DELETED_BLOCK);
-    }
+    for (uint64_t version = LEGBARO_WITH_MARKS; version <= LAST_VERSION; version++)
+        for (size_t k = 0; k < sizeof singles / sizeof *singles; k++) {
+            wrong_old_mark(version, singles[k], 1);
+            wrong_old_mark(version, singles[k], CLOSED_DAY);
+            wrong_old_mark(version, singles[k], DELETED_BLOCK);
+        }
     group_end();
 }
 
-/* ---- Version 2 beside version 1 ---- */
+/* ---- Versions with marks beside version 1 ---- */
 
-/* The blocks of a file of version 2, each behind its mark. */
+/* The blocks of a file that has marks, each behind its mark. */
 static struct buffer marked_blocks(const struct file *file)
 {
     uint64_t bytes = file->book.numbers.B, n = file->book.numbers.n;
@@ -170,7 +174,7 @@ static struct buffer marked_blocks(const struct file *file)
     return blocks;
 }
 
-/* Expects the tokens of a file of version 2 in a set-up of version 1, of the same master and id, over its blocks behind their marks. */
+/* Expects the tokens of a file that has marks in a set-up of version 1, of the same master and id, over its blocks behind their marks. */
 static void expect_twin(const struct file *file)
 {
     const struct card *numbers = &file->book.numbers;
@@ -190,15 +194,16 @@ static void expect_twin(const struct file *file)
     call_free(&set_up);
 }
 
-/* "one mark byte stands between index and block in the hash": a token of version 2 is one of version 1 over blocks that begin with it. */
+/* "one mark byte stands between index and block in the hash": a token of version 2 or 3 is one of version 1 over blocks that begin with
+ * it. */
 static void twins(void)
 {
     static const enum kind changes[] = {UPDATE, DELETE, DELETE, APPEND, LOAD, BATCH};
-    group_begin("tokens of version 2 are those of version 1 over blocks behind their marks");
-    for (int i = 0; i < TWINS; i++) {
+    group_begin("tokens of versions 2 and 3 are those of version 1 over blocks behind their marks");
+    for (uint64_t i = 0; i < TWINS; i = tried_behind(i, 5)) {
         uint64_t d = 1 + chance_below(20);
-        struct file file =
-            file_set_up(LEGBARO_WITH_MARKS, 1 + chance_below(MOST_B), d, 1 + chance_below(d), T, 1 + chance_below(2 * d));
+        uint64_t version = LEGBARO_WITH_MARKS + chance_below(LAST_VERSION + 1 - LEGBARO_WITH_MARKS);
+        struct file file = file_set_up(version, 1 + chance_below(MOST_B), d, 1 + chance_below(d), T, 1 + chance_below(2 * d));
         for (uint64_t steps = chance_below(8); steps; steps--)
             file_do(&file, changes[chance_below(sizeof changes / sizeof *changes)]);
         expect_twin(&file);

@@ -24,7 +24,7 @@ static void outside_limits(uint64_t version)
     call_finish(&call, LEGBARO_OUT_OF_LIMITS, "n 0");
 
     call = file_set_up_call(LAST_VERSION + 1, B, D, R, T, D);
-    call_finish(&call, LEGBARO_OUT_OF_LIMITS, "version 3");
+    call_finish(&call, LEGBARO_OUT_OF_LIMITS, "version 4");
 }
 
 /* Code 6's small input: t 1, one draw judged, draw. */
@@ -92,7 +92,7 @@ static void most_items(uint64_t version)
     file_end(&file);
 }
 
-/* Code 15's small inputs, which files of version 2 alone can have: a mark 2 in an update, in a deletion, in an item and in a proof. */
+/* Code 15's small inputs, which files of version 1 can't have: a mark 2 in an update, in a deletion, in an item and in a proof. */
 static void broken_marks(const struct file *file)
 {
     static const enum kind kinds[] = {UPDATE, DELETE};
@@ -145,12 +145,43 @@ static void broken_hours(const struct file *file)
     call_finish(&call, LEGBARO_OUT_OF_LIMITS, "a plan with minute 1,440");
 }
 
+/* Codes 18 and 19's small inputs, and code 2's of asks. */
+static void two_steps(uint64_t version)
+{
+    struct file file = file_set_up(version, B, D, R, T, D);
+    refused(&file, COMMIT, LEGBARO_NONE_PENDING, "commit after set-up");
+    refused(&file, DROP, LEGBARO_NONE_PENDING, "drop after set-up");
+    if (version != LEGBARO_TWO_STEPS) {
+        refused(&file, ASK_APPEND, LEGBARO_WRONG_HEADER, "ask in version 1 or 2");
+    } else {
+        file_do(&file, ASK_APPEND);
+        refused(&file, ASK_APPEND, LEGBARO_CHANGE_PENDING, "ask, ask");
+        refused(&file, APPEND, LEGBARO_CHANGE_PENDING, "ask, append");
+        refused(&file, DRAW, LEGBARO_CHANGE_PENDING, "ask, draw");
+        file_do(&file, COMMIT);
+        refused(&file, COMMIT, LEGBARO_NONE_PENDING, "ask, commit, commit");
+        file_do(&file, ASK_APPEND);
+        file_do(&file, DROP);
+        refused(&file, COMMIT, LEGBARO_NONE_PENDING, "ask, drop, commit");
+    }
+    file_end(&file);
+}
+
+/* Code 10's small input: the last counter issued at its most, which in versions 1 and 2 is ctr. */
+static void counter_at_most(const struct file *file)
+{
+    struct call call = file_call(file, UPDATE);
+    int two_steps = file->book.numbers.version == LEGBARO_TWO_STEPS;
+    buffer_put_number(&call.lent[CARD], two_steps ? LEGBARO_CARD_LAST_ISSUED : LEGBARO_CARD_COUNTER, 8, LEGBARO_MOST_COUNTER);
+    call_finish(&call, LEGBARO_COUNTER_AT_MOST, "ctr, or last issued, 4,294,967,295");
+}
+
 /* The small inputs on a new file. */
 static void small_calls(struct file *file)
 {
     struct call call = file_call(file, DRAW);
-    buffer_resize(&call.lent[CARD], LEGBARO_CARD_BYTES - 1);
-    call_finish(&call, LEGBARO_WRONG_LENGTH, "card of 42 bytes");
+    buffer_resize(&call.lent[CARD], call.lent[CARD].length - 1);
+    call_finish(&call, LEGBARO_WRONG_LENGTH, "card of 42 or 62 bytes");
 
     call = file_call(file, DRAW);
     call.lent[CARD].bytes[LEGBARO_CARD_VERSION] = 0;
@@ -172,10 +203,7 @@ static void small_calls(struct file *file)
     buffer_flip(&call.lent[TABLE], 8 * (2 * LEGBARO_RECORD_BYTES - 1));
     call_finish(&call, LEGBARO_BAD_RECORD + 256 * 2, "bit flipped in record 2's tag");
 
-    call = file_call(file, UPDATE);
-    buffer_put_number(&call.lent[CARD], LEGBARO_CARD_COUNTER, 8, LEGBARO_MOST_COUNTER);
-    call_finish(&call, LEGBARO_COUNTER_AT_MOST, "ctr 4,294,967,295");
-
+    counter_at_most(file);
     broken_loads(file);
     broken_batches(file);
     broken_marks(file);
@@ -228,6 +256,7 @@ static void small_inputs(uint64_t version)
     too_many_positions();
     most_items(version);
     last_token_drawn(version);
+    two_steps(version);
     taken(version);
     group_end();
 }

@@ -21,6 +21,22 @@
         return before##_load##behind(LENT(MASTER), LENT(CARD), LENT(TABLE), LENT(BLOCKS));                                     \
     case BATCH:                                                                                                                \
         return before##_batch##behind(LENT(MASTER), LENT(CARD), LENT(TABLE), LENT(ITEMS));                                     \
+    case ASK_UPDATE:                                                                                                           \
+        return before##_ask_update##behind(LENT(MASTER), LENT(CARD), LENT(TABLE), LENT(SECOND), call->m, LENT(OLD),            \
+                                           LENT(MARKS), LENT(NEW));                                                            \
+    case ASK_DELETE:                                                                                                           \
+        return before##_ask_delete##behind(LENT(MASTER), LENT(CARD), LENT(TABLE), LENT(SECOND), call->m, LENT(OLD),            \
+                                           LENT(MARKS));                                                                       \
+    case ASK_APPEND:                                                                                                           \
+        return before##_ask_append##behind(LENT(MASTER), LENT(CARD), LENT(TABLE), LENT(SECOND), LENT(NEW));                    \
+    case ASK_LOAD:                                                                                                             \
+        return before##_ask_load##behind(LENT(MASTER), LENT(CARD), LENT(TABLE), LENT(SECOND), LENT(BLOCKS));                   \
+    case ASK_BATCH:                                                                                                            \
+        return before##_ask_batch##behind(LENT(MASTER), LENT(CARD), LENT(TABLE), LENT(SECOND), LENT(ITEMS));                   \
+    case COMMIT:                                                                                                               \
+        return before##_commit##behind(LENT(CARD));                                                                            \
+    case DROP:                                                                                                                 \
+        return before##_drop##behind(LENT(CARD));                                                                              \
     case DRAW:                                                                                                                 \
         return before##_draw##behind(LENT(MASTER), LENT(CARD), LENT(MESSAGE), LENT(PLAN), LENT_TIME);                          \
     case JUDGE:                                                                                                                \

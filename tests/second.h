@@ -4,13 +4,13 @@
  *
  *   second_start, second_end                the contexts of libcrypto that all else here uses
  *   second_set_up .. second_wait            the calls, with the arguments of legbaro.h
- *   struct card, second_read_card, second_write_card   the numbers of a card, and their bytes
+ *   struct card, second_read_card, second_write_card, second_card_bytes   the numbers of a card, their bytes, and how many these are
  *   second_fresh_records                    the records of unused tokens, reckoned from the blocks
  *   struct edit                             what a change hands over
  *   struct item, second_item                an item of a batch
  *   second_token                            the token in a record of a table
  *   struct when, second_weekday             a date and minute, and the weekday of a date
- *   second_change_fault, second_draw_fault, second_judge_fault   the code of a call that is turned away, 0 for none
+ *   second_change_fault .. second_judge_fault   the code of a call that is turned away, 0 for none
  *   second_verdict                          0 or 11
  *   second_half_width, second_permuted, second_permuted_back   the permutation P
  */
@@ -22,12 +22,13 @@
 
 #include "legbaro.h"
 
-enum { TOKEN_BYTES = 32, FIRST_VERSION = 1, LAST_VERSION = 2 };
+enum { TOKEN_BYTES = 32, FIRST_VERSION = 1, LAST_VERSION = 3 };
 
+/* Of a change that is pending, its counter and the number of blocks after it, both 0 for none. */
 struct card {
     uint64_t version;
     uint8_t id[LEGBARO_ID_BYTES];
-    uint64_t B, d, r, t, n, ctr, next, open;
+    uint64_t B, d, r, t, n, ctr, next, open, last_issued, pending, pending_n;
 };
 
 /* An update and a deletion have a block number, an old block and its mark; an update and an append a new block, a load new blocks end to
@@ -97,6 +98,44 @@ uint64_t second_batch(const uint8_t *master, size_t master_length,
                       uint8_t *table, size_t table_length,
                       const uint8_t *items, size_t items_length);
 
+uint64_t second_ask_update(const uint8_t *master, size_t master_length,
+                           uint8_t *card, size_t card_length,
+                           const uint8_t *table, size_t table_length,
+                           uint8_t *second, size_t second_length,
+                           uint64_t m,
+                           const uint8_t *old_block, size_t old_block_length,
+                           const uint8_t *mark, size_t mark_length,
+                           const uint8_t *new_block, size_t new_block_length);
+
+uint64_t second_ask_delete(const uint8_t *master, size_t master_length,
+                           uint8_t *card, size_t card_length,
+                           const uint8_t *table, size_t table_length,
+                           uint8_t *second, size_t second_length,
+                           uint64_t m,
+                           const uint8_t *old_block, size_t old_block_length,
+                           const uint8_t *mark, size_t mark_length);
+
+uint64_t second_ask_append(const uint8_t *master, size_t master_length,
+                           uint8_t *card, size_t card_length,
+                           const uint8_t *table, size_t table_length,
+                           uint8_t *second, size_t second_length,
+                           const uint8_t *new_block, size_t new_block_length);
+
+uint64_t second_ask_load(const uint8_t *master, size_t master_length,
+                         uint8_t *card, size_t card_length,
+                         const uint8_t *table, size_t table_length,
+                         uint8_t *second, size_t second_length,
+                         const uint8_t *blocks, size_t blocks_length);
+
+uint64_t second_ask_batch(const uint8_t *master, size_t master_length,
+                          uint8_t *card, size_t card_length,
+                          const uint8_t *table, size_t table_length,
+                          uint8_t *second, size_t second_length,
+                          const uint8_t *items, size_t items_length);
+
+uint64_t second_commit(uint8_t *card, size_t card_length);
+uint64_t second_drop(uint8_t *card, size_t card_length);
+
 uint64_t second_draw(const uint8_t *master, size_t master_length,
                      uint8_t *card, size_t card_length,
                      uint8_t *message, size_t message_length,
@@ -122,11 +161,12 @@ uint64_t second_positions(uint64_t r, uint64_t planned, uint64_t present);
 uint64_t second_wait(const uint8_t *plan, size_t plan_length,
                      uint64_t year, uint64_t month, uint64_t day, uint64_t minute);
 
-/* The numbers of LEGBARO_CARD_BYTES, whatever they are, and the bytes of numbers. */
+/* How many bytes a card of a version has; the numbers of so many bytes, whatever they are, and the bytes of numbers. */
+size_t second_card_bytes(uint64_t version);
 struct card second_read_card(const uint8_t *bytes);
 void second_write_card(uint8_t *bytes, const struct card *c);
 
-/* Writes records `first` to `last` of a table: each token over the card's n blocks, with their marks in version 2, sealed at the card's
+/* Writes records `first` to `last` of a table: each token over the card's n blocks, with their marks but in version 1, sealed at the card's
  * counter. */
 void second_fresh_records(const uint8_t *master, const struct card *c, const uint8_t *blocks, const uint8_t *marks, uint64_t first,
                           uint64_t last, uint8_t *table);
@@ -138,9 +178,12 @@ size_t second_item_bytes(const struct card *c);
 /* Whether record i of a table opens at the card's counter; its token where it does. */
 int second_token(const uint8_t *master, const struct card *c, const uint8_t *table, uint64_t i, uint8_t *token);
 
-/* The code of a change, code 7 apart, of a draw, and of a judging before its verdict. */
+/* The code of a change in one step and of an ask, code 7 apart, of a commit or drop, of a draw, and of a judging before its verdict. */
 uint64_t second_change_fault(const struct edit *edit, size_t master_length, const uint8_t *card, size_t card_length,
                              size_t table_length);
+uint64_t second_ask_fault(const struct edit *edit, size_t master_length, const uint8_t *card, size_t card_length, size_t table_length,
+                          size_t second_length);
+uint64_t second_settle_fault(const uint8_t *card, size_t card_length);
 uint64_t second_draw_fault(size_t master_length, const uint8_t *card, size_t card_length, size_t message_length, const uint8_t *plan,
                            size_t plan_length, const struct when *when);
 uint64_t second_judge_fault(size_t master_length, const uint8_t *card, size_t card_length);

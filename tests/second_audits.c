@@ -6,6 +6,7 @@
 
 /* ---- Set-up ---- */
 
+/* The wrong size of a card for its version is "at set-up the later 1". */
 uint64_t second_set_up(const uint8_t *master, size_t master_length,
                        const uint8_t *id, size_t id_length,
                        uint64_t version,
@@ -14,11 +15,11 @@ uint64_t second_set_up(const uint8_t *master, size_t master_length,
                        uint8_t *card, size_t card_length,
                        uint8_t *table, size_t table_length)
 {
-    if (master_length != LEGBARO_MASTER_BYTES || id_length != LEGBARO_ID_BYTES || card_length != LEGBARO_CARD_BYTES)
+    if (master_length != LEGBARO_MASTER_BYTES || id_length != LEGBARO_ID_BYTES || !card_sized(card_length))
         return LEGBARO_WRONG_LENGTH;
     if (!version_fits(version) || !shape_fits(B, d, r) || !within(1, t, LEGBARO_MOST_TOKENS) || !within(1, n, LEGBARO_MOST_BLOCKS))
         return LEGBARO_OUT_OF_LIMITS;
-    if (blocks_length != n * B || table_length != t * LEGBARO_RECORD_BYTES)
+    if (card_length != second_card_bytes(version) || blocks_length != n * B || table_length != t * LEGBARO_RECORD_BYTES)
         return LEGBARO_WRONG_LENGTH;
     struct card c = {.version = version, .B = B, .d = d, .r = r, .t = t, .n = n, .ctr = 0, .next = 1, .open = 0};
     uint8_t *marks = calloc(n, 1); /* all live */
@@ -32,17 +33,18 @@ uint64_t second_set_up(const uint8_t *master, size_t master_length,
 
 /* ---- Draw ---- */
 
-/* "It refuses, before everything else, a date or minute outside these (16), and after 3 a draw outside every window (17)" */
+/* "It refuses, before everything else, a date or minute outside these (16), and after 3 a draw outside every window (17)"; "straight after
+ * 8, an ask, one-step change or draw while something is pending (18)" */
 uint64_t second_draw_fault(size_t master_length, const uint8_t *card, size_t card_length, size_t message_length, const uint8_t *plan,
                            size_t plan_length, const struct when *when)
 {
     if (!when_fits(when))
         return LEGBARO_BAD_TIME;
-    if (master_length != LEGBARO_MASTER_BYTES || card_length != LEGBARO_CARD_BYTES || message_length != LEGBARO_MESSAGE_BYTES ||
+    if (master_length != LEGBARO_MASTER_BYTES || !card_sized(card_length) || message_length != LEGBARO_MESSAGE_BYTES ||
         plan_length != PLAN_BYTES)
         return LEGBARO_WRONG_LENGTH;
-    if (card_fault(card))
-        return card_fault(card);
+    if (card_fault(card, card_length))
+        return card_fault(card, card_length);
     if (!plan_fits(plan))
         return LEGBARO_OUT_OF_LIMITS;
     if (wait_for(plan, when) > 0)
@@ -50,6 +52,8 @@ uint64_t second_draw_fault(size_t master_length, const uint8_t *card, size_t car
     struct card c = second_read_card(card);
     if (c.open != 0)
         return LEGBARO_TOKEN_OPEN;
+    if (c.pending != 0)
+        return LEGBARO_CHANGE_PENDING;
     return c.next == c.t + 1 ? LEGBARO_NO_TOKEN_LEFT : LEGBARO_OK;
 }
 
@@ -80,10 +84,10 @@ uint64_t second_draw(const uint8_t *master, size_t master_length,
 
 uint64_t second_judge_fault(size_t master_length, const uint8_t *card, size_t card_length)
 {
-    if (master_length != LEGBARO_MASTER_BYTES || card_length != LEGBARO_CARD_BYTES)
+    if (master_length != LEGBARO_MASTER_BYTES || !card_sized(card_length))
         return LEGBARO_WRONG_LENGTH;
-    if (card_fault(card))
-        return card_fault(card);
+    if (card_fault(card, card_length))
+        return card_fault(card, card_length);
     return second_read_card(card).open == 0 ? LEGBARO_NONE_OPEN : LEGBARO_OK;
 }
 

@@ -32,23 +32,42 @@ static uint64_t place_fault(const struct edit *edit, const struct card *c)
     }
 }
 
-uint64_t second_change_fault(const struct edit *edit, size_t master_length, const uint8_t *card, size_t card_length,
-                             size_t table_length)
+/* "straight after 8, an ask, one-step change or draw while something is pending (18)"; "code 10 looks at the last counter issued" */
+uint64_t edit_fault(const struct edit *edit, const struct card *c, size_t table_length)
 {
-    if (master_length != LEGBARO_MASTER_BYTES || card_length != LEGBARO_CARD_BYTES)
-        return LEGBARO_WRONG_LENGTH;
-    if (card_fault(card))
-        return card_fault(card);
-    struct card c = second_read_card(card);
-    if (table_length != c.t * LEGBARO_RECORD_BYTES || !handed_fits(edit, &c))
+    if (table_length != c->t * LEGBARO_RECORD_BYTES || !handed_fits(edit, c))
         return LEGBARO_WRONG_LENGTH;
     if (!marks_fit(edit->mark, edit->mark_length))
         return LEGBARO_BAD_MARK;
-    if (c.open != 0)
+    if (c->open != 0)
         return LEGBARO_TOKEN_OPEN;
-    if (place_fault(edit, &c))
-        return place_fault(edit, &c);
-    return c.ctr == LEGBARO_MOST_COUNTER ? LEGBARO_COUNTER_AT_MOST : LEGBARO_OK;
+    if (c->pending != 0)
+        return LEGBARO_CHANGE_PENDING;
+    if (place_fault(edit, c))
+        return place_fault(edit, c);
+    return c->last_issued == LEGBARO_MOST_COUNTER ? LEGBARO_COUNTER_AT_MOST : LEGBARO_OK;
+}
+
+uint64_t second_change_fault(const struct edit *edit, size_t master_length, const uint8_t *card, size_t card_length,
+                             size_t table_length)
+{
+    if (master_length != LEGBARO_MASTER_BYTES || !card_sized(card_length))
+        return LEGBARO_WRONG_LENGTH;
+    if (card_fault(card, card_length))
+        return card_fault(card, card_length);
+    struct card c = second_read_card(card);
+    return edit_fault(edit, &c, table_length);
+}
+
+/* "Unused records in the standing table are those sealed under the last committed counter" */
+uint64_t bad_record(const uint8_t *master, const struct card *c, const uint8_t *table)
+{
+    uint8_t token[TOKEN_BYTES];
+    use_keys(master, c->id);
+    for (uint64_t i = c->next; i <= c->t; i++)
+        if (!open_record(table + (i - 1) * LEGBARO_RECORD_BYTES, c, i, token))
+            return i;
+    return 0;
 }
 
 /* ---- The blocks that are changed ---- */
@@ -99,8 +118,8 @@ static struct work work_of(const struct edit *edit, const struct card *c)
 
 /* ---- Carrying a change out ---- */
 
-/* Opens an unused record, xors the hashes of old and new block into its token for every item whose row it draws, and seals it at the next
- * counter. */
+/* Opens an unused record, xors the hashes of old and new block into its token for every item whose row it draws, and seals it: "Every ask
+ * takes the last issued plus 1" */
 static void reseal(uint8_t *record, const struct card *c, uint64_t i, const struct work *work)
 {
     uint8_t k[KEY_BYTES], hash_key[KEY_BYTES], token[TOKEN_BYTES];
@@ -119,38 +138,60 @@ static void reseal(uint8_t *record, const struct card *c, uint64_t i, const stru
             mix_block(token, hash_key, index, mark_in(c->version, item->old_mark, 0), item->old_block, c->B);
         mix_block(token, hash_key, index, mark_in(c->version, item->new_mark, 0), item->new_block, c->B);
     }
-    seal(record, c->version, c->ctr + 1, i, token);
+    seal(record, c->version, c->last_issued + 1, i, token);
 }
 
-/* Writes card and table after a list of block changes. */
-static void carry_out(const struct work *work, struct card c, uint8_t *card, uint8_t *table)
+uint64_t carry_out(const struct edit *edit, const struct card *c, uint8_t *table)
 {
-    for (uint64_t i = c.next; i <= c.t; i++)
-        reseal(record_at(table, i), &c, i, work);
-    for (size_t e = 0; e < work->count; e++)
-        if (!work->items[e].old_block)
-            c.n++;
-    c.ctr++;
-    second_write_card(card, &c);
+    struct work work = work_of(edit, c);
+    uint64_t n = c->n;
+    for (uint64_t i = c->next; i <= c->t; i++)
+        reseal(record_at(table, i), c, i, &work);
+    for (size_t e = 0; e < work.count; e++)
+        if (!work.items[e].old_block)
+            n++;
+    free(work.items);
+    return n;
 }
 
-/* The call: its fault, 7 with the lowest unused token whose record does not open, or the change carried out. */
+/* The call: its fault, 7 with the lowest unused token whose record does not open, or the change carried out. "A one-step change, load or
+ * batch too, is ask and commit together" */
 static uint64_t change(const struct edit *edit, const uint8_t *master, size_t master_length, uint8_t *card, size_t card_length,
                        uint8_t *table, size_t table_length)
 {
-    uint8_t token[TOKEN_BYTES];
     uint64_t fault = second_change_fault(edit, master_length, card, card_length, table_length);
     if (fault)
         return fault;
     struct card c = second_read_card(card);
-    use_keys(master, c.id);
-    for (uint64_t i = c.next; i <= c.t; i++)
-        if (!open_record(record_at(table, i), &c, i, token))
-            return LEGBARO_BAD_RECORD + 256 * i;
-    struct work work = work_of(edit, &c);
-    carry_out(&work, c, card, table);
-    free(work.items);
+    uint64_t bad = bad_record(master, &c, table);
+    if (bad)
+        return LEGBARO_BAD_RECORD + 256 * bad;
+    c.n = carry_out(edit, &c, table);
+    c.last_issued++;
+    c.ctr = c.last_issued;
+    second_write_card(card, &c);
     return LEGBARO_OK;
+}
+
+struct edit update_edit(uint64_t m, const uint8_t *old_block, size_t old_length, const uint8_t *mark, size_t mark_length,
+                        const uint8_t *new_block, size_t new_length)
+{
+    struct edit edit = delete_edit(m, old_block, old_length, mark, mark_length);
+    edit.kind = EDIT_UPDATE;
+    edit.new_blocks = new_block;
+    edit.new_length = new_length;
+    return edit;
+}
+
+struct edit delete_edit(uint64_t m, const uint8_t *old_block, size_t old_length, const uint8_t *mark, size_t mark_length)
+{
+    struct edit edit = {.kind = EDIT_DELETE,
+                        .m = m,
+                        .old_block = old_block,
+                        .old_length = old_length,
+                        .mark = mark,
+                        .mark_length = mark_length};
+    return edit;
 }
 
 uint64_t second_update(const uint8_t *master, size_t master_length,
@@ -161,14 +202,7 @@ uint64_t second_update(const uint8_t *master, size_t master_length,
                        const uint8_t *mark, size_t mark_length,
                        const uint8_t *new_block, size_t new_block_length)
 {
-    struct edit edit = {.kind = EDIT_UPDATE,
-                        .m = m,
-                        .old_block = old_block,
-                        .old_length = old_block_length,
-                        .mark = mark,
-                        .mark_length = mark_length,
-                        .new_blocks = new_block,
-                        .new_length = new_block_length};
+    struct edit edit = update_edit(m, old_block, old_block_length, mark, mark_length, new_block, new_block_length);
     return change(&edit, master, master_length, card, card_length, table, table_length);
 }
 
@@ -179,12 +213,7 @@ uint64_t second_delete(const uint8_t *master, size_t master_length,
                        const uint8_t *old_block, size_t old_block_length,
                        const uint8_t *mark, size_t mark_length)
 {
-    struct edit edit = {.kind = EDIT_DELETE,
-                        .m = m,
-                        .old_block = old_block,
-                        .old_length = old_block_length,
-                        .mark = mark,
-                        .mark_length = mark_length};
+    struct edit edit = delete_edit(m, old_block, old_block_length, mark, mark_length);
     return change(&edit, master, master_length, card, card_length, table, table_length);
 }
 

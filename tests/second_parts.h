@@ -5,6 +5,7 @@
  *   second_permutation.c   the permutation P
  *   second_tokens.c        keys, tokens, token records
  *   second_changes.c       update, delete, append, load, batch
+ *   second_asks.c          the same asked; commit, drop
  *   second_batches.c       the items of a batch
  *   second_audits.c        set-up, draw, judge, cause, the host's proof
  *   second_plans.c         positions
@@ -46,12 +47,15 @@ const uint8_t *behind_head(const uint8_t *bytes);
 struct message read_message(const uint8_t *bytes);
 void write_message(uint8_t *bytes, const struct message *m);
 
-/* Limits: of any number, of a version, of B, d and r together, of a message, and the code that the card itself gives (2, then 3). */
+/* Limits: of any number, of a version, of B, d and r together, of a message. */
 int within(uint64_t least, uint64_t x, uint64_t most);
 int version_fits(uint64_t version);
 int shape_fits(uint64_t B, uint64_t d, uint64_t r);
 int message_fits(const struct message *m);
-uint64_t card_fault(const uint8_t *card);
+
+/* Whether a card of some version has so many bytes; then the code that the card itself gives (2, then 3). */
+int card_sized(size_t length);
+uint64_t card_fault(const uint8_t *card, size_t length);
 
 /* ---- second_permutation.c ---- */
 
@@ -73,7 +77,7 @@ void hash_key_of(uint64_t i, uint8_t *c);
 /* Xors SHA-256(c, index as four bytes, mark, block) into a token, or without a mark where that is null. */
 void mix_block(uint8_t *token, const uint8_t *c, uint64_t index, const uint8_t *mark, const uint8_t *block, size_t B);
 
-/* The numbers over which a token is reckoned, and the token under k and c over n blocks; marks are read in version 2 alone. */
+/* The numbers over which a token is reckoned, and the token under k and c over n blocks; in version 1 no marks are read. */
 struct shape {
     uint64_t version, d, r, B, n;
 };
@@ -98,7 +102,7 @@ uint64_t wait_for(const uint8_t *plan, const struct when *when);
 
 /* ---- second_batches.c ---- */
 
-/* Block m was old_block, null for none, with its mark, and becomes new_block with another; marks are read in version 2 alone. */
+/* Block m was old_block, null for none, with its mark, and becomes new_block with another; in version 1 no marks are read. */
 struct block_change {
     uint64_t m;
     const uint8_t *old_block, *old_mark, *new_block, *new_mark;
@@ -114,5 +118,20 @@ int marks_fit(const uint8_t *marks, size_t count);
 uint64_t items_fault(const uint8_t *items, size_t length, const struct card *c);
 size_t item_count(size_t length, const struct card *c);
 struct block_change item_change(const uint8_t *items, const struct card *c, size_t e);
+
+/* ---- second_changes.c ---- */
+
+/* The edits of an update and of a deletion. */
+struct edit update_edit(uint64_t m, const uint8_t *old_block, size_t old_length, const uint8_t *mark, size_t mark_length,
+                        const uint8_t *new_block, size_t new_length);
+struct edit delete_edit(uint64_t m, const uint8_t *old_block, size_t old_length, const uint8_t *mark, size_t mark_length);
+
+/* The code that an edit gives where the card gives none, 7 apart; the lowest unused token whose record does not open, 0 for none. */
+uint64_t edit_fault(const struct edit *edit, const struct card *c, size_t table_length);
+uint64_t bad_record(const uint8_t *master, const struct card *c, const uint8_t *table);
+
+/* Carries an edit without a fault out on a table whose unused records open, at the counter behind the last issued. Answers the number of
+ * blocks after it. The file's keys are in use. */
+uint64_t carry_out(const struct edit *edit, const struct card *c, uint8_t *table);
 
 #endif

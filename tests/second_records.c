@@ -57,6 +57,14 @@ const uint8_t *behind_head(const uint8_t *bytes)
 
 /* ---- Card and message ---- */
 
+/* "Card, 43: length 41"; "Card version 3 (63 bytes, length 61)" */
+size_t second_card_bytes(uint64_t version)
+{
+    return version == 3 ? 63 : 43;
+}
+
+/* "adds the last counter issued 8, and the pending counter 8 and pending block count 4"; "Versions 1 and 2 read as nothing pending and ctr
+ * last issued" */
 struct card second_read_card(const uint8_t *bytes)
 {
     struct card c = {.version = version_in(bytes)};
@@ -70,12 +78,15 @@ struct card second_read_card(const uint8_t *bytes)
     c.ctr = take(&at, 8);
     c.next = take(&at, 4);
     c.open = take(&at, 4);
+    c.last_issued = c.version == 3 ? take(&at, 8) : c.ctr;
+    c.pending = c.version == 3 ? take(&at, 8) : 0;
+    c.pending_n = c.version == 3 ? take(&at, 4) : 0;
     return c;
 }
 
 void second_write_card(uint8_t *bytes, const struct card *c)
 {
-    uint8_t *at = put_head(bytes, LEGBARO_CARD_BYTES, c->version);
+    uint8_t *at = put_head(bytes, second_card_bytes(c->version), c->version);
     at = put_bytes(at, c->id, sizeof c->id);
     at = put(at, 2, c->B);
     at = put(at, 4, c->d);
@@ -84,7 +95,9 @@ void second_write_card(uint8_t *bytes, const struct card *c)
     at = put(at, 4, c->n);
     at = put(at, 8, c->ctr);
     at = put(at, 4, c->next);
-    put(at, 4, c->open);
+    at = put(at, 4, c->open);
+    if (c->version == 3)
+        put(put(put(at, 8, c->last_issued), 8, c->pending), 4, c->pending_n);
 }
 
 struct message read_message(const uint8_t *bytes)
@@ -131,10 +144,21 @@ int shape_fits(uint64_t B, uint64_t d, uint64_t r)
            r <= d;
 }
 
+/* "the pending counter 8 and pending block count 4, both 0 for none"; "a pending counter equals it and exceeds ctr, with a count from n to
+ * n's most and open 0" */
+static int pending_fits(const struct card *c)
+{
+    if (c->pending == 0 && c->pending_n == 0)
+        return 1;
+    return c->pending == c->last_issued && c->pending > c->ctr && within(c->n, c->pending_n, LEGBARO_MOST_BLOCKS) && c->open == 0;
+}
+
+/* "Last issued is from ctr to ctr's most" */
 static int card_fits(const struct card *c)
 {
     return shape_fits(c->B, c->d, c->r) && within(1, c->t, LEGBARO_MOST_TOKENS) && within(1, c->n, LEGBARO_MOST_BLOCKS) &&
-           c->ctr <= LEGBARO_MOST_COUNTER && within(1, c->next, c->t + 1) && (c->open == 0 || c->open == c->next - 1);
+           c->ctr <= LEGBARO_MOST_COUNTER && within(1, c->next, c->t + 1) && (c->open == 0 || c->open == c->next - 1) &&
+           within(c->ctr, c->last_issued, LEGBARO_MOST_COUNTER) && pending_fits(c);
 }
 
 int message_fits(const struct message *m)
@@ -142,10 +166,17 @@ int message_fits(const struct message *m)
     return shape_fits(m->B, m->d, m->r) && within(1, m->i, LEGBARO_MOST_TOKENS) && within(1, m->n, LEGBARO_MOST_BLOCKS);
 }
 
-uint64_t card_fault(const uint8_t *card)
+/* "Where a card comes to have several sizes, each passes the first length check; the wrong one for its version is then 2" */
+int card_sized(size_t length)
 {
-    struct card c = second_read_card(card);
-    if (!version_fits(c.version) || !head_fits(card, LEGBARO_CARD_BYTES, c.version))
+    return length == second_card_bytes(1) || length == second_card_bytes(3);
+}
+
+uint64_t card_fault(const uint8_t *card, size_t length)
+{
+    uint64_t version = version_in(card);
+    if (!version_fits(version) || length != second_card_bytes(version) || !head_fits(card, length, version))
         return LEGBARO_WRONG_HEADER;
+    struct card c = second_read_card(card);
     return card_fits(&c) ? LEGBARO_OK : LEGBARO_OUT_OF_LIMITS;
 }

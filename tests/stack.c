@@ -54,6 +54,10 @@ static void stack_of_calls(uint64_t version)
     expect_small(file_load_call(&file, 600));
     expect_small(file_batch_call(&file, 1));
     expect_small(file_batch_call(&file, LEGBARO_MOST_ITEMS));
+    for (int kind = ASK_UPDATE; version == LEGBARO_TWO_STEPS && kind <= ASK_BATCH; kind++)
+        expect_small(file_call(&file, (enum kind)kind));
+    expect_small(file_call(&file, COMMIT));
+    expect_small(file_call(&file, DROP));
     expect_small(file_call(&file, DRAW));
     expect_small(file_call(&file, WAIT));
     file_do(&file, DRAW);

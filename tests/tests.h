@@ -23,11 +23,17 @@ void test_loads(void);
 /* Batches of every size, their faults, and batches beside the same changes made singly. */
 void test_batches(void);
 
-/* Versions that there are not, and the other version where the file's is wanted. */
+/* Versions that there are not, and the other versions where the file's is wanted. */
 void test_versions(void);
 
-/* Marks: their lengths and values, blocks of zeros beside deleted ones, and version 2 beside version 1. */
+/* Marks: their lengths and values, blocks of zeros beside deleted ones, and versions with marks beside version 1. */
 void test_marks(void);
+
+/* Changes in two steps: ask and commit beside the change in one step, drops, what the host holds, and the last counters. */
+void test_asks(void);
+
+/* Cards of version 3: their sizes, and the limits of what is pending, at, below and above their ends. */
+void test_pending(void);
 
 /* Why a reply is rejected: each cause alone and all sets of them, and no cause exactly where judge accepts. */
 void test_causes(void);

@@ -66,7 +66,7 @@ static void every_date(void)
     plan_window(&mondays, MONDAY, 0, 1);
     for (uint64_t year = FIRST_YEAR - 1; year <= LAST_YEAR + 1; year++)
         for (uint64_t month = 0; month <= 13; month++)
-            for (uint64_t day = 0; day <= 32; day++)
+            for (uint64_t day = 0; day <= 32; day = tried_behind(day, 6))
                 date(&mondays, year, month, day);
     buffer_free(&mondays);
     group_end();
@@ -119,7 +119,7 @@ static uint64_t scanned(const struct buffer *plan, const struct when *when)
 static void random_plans(void)
 {
     group_begin("the wait on random plans, minute after minute");
-    for (int i = 0; i < RANDOM_PLANS; i++) {
+    for (uint64_t i = 0; i < RANDOM_PLANS; i = tried_behind(i, 5)) {
         struct when when = any_time();
         struct buffer plan = chance_of(4) ? plan_blank() : any_plan();
         for (uint64_t windows = chance_below(3); windows; windows--)
@@ -136,7 +136,7 @@ static void one_window(unsigned weekday, uint64_t start, uint64_t end)
     struct buffer plan = plan_blank();
     uint64_t first = weekday * DAY + start, minutes = (end + DAY - start) % DAY;
     plan_window(&plan, weekday, start, end);
-    for (uint64_t at = 0; at < WEEK; at += at % 97 == 0 ? 1 : 31) {
+    for (uint64_t at = 0; at < WEEK; at = tried_behind(at + (at % 97 == 0 ? 0 : 30), 150)) {
         struct when when = {2026, 11, 16 + at / DAY, at % DAY}; /* 16 November 2026 is a Monday */
         uint64_t since = (at + WEEK - first) % WEEK;
         expect_wait(&plan, &when, minutes == 0 ? WEEK : since < minutes ? 0 : WEEK - since);

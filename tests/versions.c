@@ -1,4 +1,4 @@
-/* Versions: numbers that are none, at set-up and in everything that is read; and the other version where the file's is wanted. */
+/* Versions: numbers that are none, at set-up and in everything that is read; and the other versions where the file's is wanted. */
 #include "tests.h"
 
 #include "files.h"
@@ -11,17 +11,11 @@
 /* Where a record, a message or a reply has its version; and a reply its record. */
 enum { B = 28, D = 5, R = 5, T = 4, N = 7, VERSION_AT = 2, RECORD_AT = LEGBARO_REPLY_BYTES - LEGBARO_RECORD_BYTES };
 
-static const enum kind changes[] = {UPDATE, DELETE, APPEND, LOAD, BATCH};
-static const uint8_t no_versions[] = {0, 3, 4, 127, 128, 129, 130, 255};
-
-static uint64_t other_version(const struct file *file)
-{
-    return FIRST_VERSION + LAST_VERSION - file->book.numbers.version;
-}
+static const uint8_t no_versions[] = {0, 4, 5, 127, 128, 129, 130, 131, 255};
 
 static void versions_at_set_up(void)
 {
-    static const uint64_t no_numbers[] = {0,   3,   255, 256, 257, 258, UINT64_C(1) << 32, (UINT64_C(1) << 32) + 1, UINT64_C(1) << 63,
+    static const uint64_t no_numbers[] = {0,   4,   255, 256, 257, 258, 259, UINT64_C(1) << 32, (UINT64_C(1) << 32) + 1, UINT64_C(1) << 63,
                                           UINT64_MAX};
     group_begin("set-ups of versions that there are not");
     for (size_t i = 0; i < COUNT(no_numbers); i++) {
@@ -39,18 +33,30 @@ static void with_byte(const struct file *file, enum kind kind, enum role role, s
     call_finish(&call, number, "another version");
 }
 
-/* In a card and in a message: 2. In any unused record: 7, with its number. */
+/* Any unused record of another version, or of none: 7, with its number. */
+static void version_of_records(const struct file *changing, enum kind change, uint64_t version)
+{
+    for (uint64_t token = changing->book.numbers.next; token <= T; token++)
+        with_byte(changing, change, TABLE, (token - 1) * LEGBARO_RECORD_BYTES + VERSION_AT, version, LEGBARO_BAD_RECORD + 256 * token);
+}
+
+/* In a card and in a message: 2. */
 static void versions_in_changes(const struct file *changing)
 {
-    for (size_t k = 0; k < COUNT(changes); k++)
+    uint64_t own = changing->book.numbers.version;
+    enum kind last = own == LEGBARO_TWO_STEPS ? ASK_BATCH : BATCH;
+    for (enum kind kind = UPDATE; kind <= last; kind++) {
         for (size_t i = 0; i < COUNT(no_versions); i++) {
-            with_byte(changing, changes[k], CARD, VERSION_AT, no_versions[i], LEGBARO_WRONG_HEADER);
-            for (uint64_t token = changing->book.numbers.next; token <= T; token++) {
-                size_t at = (token - 1) * LEGBARO_RECORD_BYTES + VERSION_AT;
-                with_byte(changing, changes[k], TABLE, at, no_versions[i], LEGBARO_BAD_RECORD + 256 * token);
-                with_byte(changing, changes[k], TABLE, at, other_version(changing), LEGBARO_BAD_RECORD + 256 * token);
-            }
+            with_byte(changing, kind, CARD, VERSION_AT, no_versions[i], LEGBARO_WRONG_HEADER);
+            version_of_records(changing, kind, no_versions[i]);
         }
+        for (uint64_t other = FIRST_VERSION; other <= LAST_VERSION; other++)
+            if (other != own)
+                version_of_records(changing, kind, other);
+    }
+    for (enum kind kind = ASK_UPDATE; kind <= DROP; kind++)
+        for (size_t i = 0; i < COUNT(no_versions); i++)
+            with_byte(changing, kind, CARD, VERSION_AT, no_versions[i], LEGBARO_WRONG_HEADER);
 }
 
 /* In a reply, and in the record within it: rejected. */
@@ -64,27 +70,57 @@ static void versions_in_audits(const struct file *changing, const struct file *j
         with_byte(judging, JUDGE, REPLY, VERSION_AT, no_versions[i], LEGBARO_REJECTED);
         with_byte(judging, JUDGE, REPLY, RECORD_AT + VERSION_AT, no_versions[i], LEGBARO_REJECTED);
     }
-    with_byte(judging, JUDGE, REPLY, VERSION_AT, other_version(judging), LEGBARO_REJECTED);
-    with_byte(judging, JUDGE, REPLY, RECORD_AT + VERSION_AT, other_version(judging), LEGBARO_REJECTED);
+    for (uint64_t other = FIRST_VERSION; other <= LAST_VERSION; other++)
+        if (other != judging->book.numbers.version) {
+            with_byte(judging, JUDGE, REPLY, VERSION_AT, other, LEGBARO_REJECTED);
+            with_byte(judging, JUDGE, REPLY, RECORD_AT + VERSION_AT, other, LEGBARO_REJECTED);
+        }
 }
 
-/* A card of the other version: its marks have another length there, and no record opens by it. Its draw is accepted. */
-static void cards_of_the_other(const struct file *changing, const struct file *judging)
+/* Makes a card of a version of a file's: the same numbers, in the size of that version. */
+static void put_card(const struct file *file, struct call *call, uint64_t version)
 {
-    uint64_t other = other_version(changing), bad = LEGBARO_BAD_RECORD + 256 * changing->book.numbers.next;
-    with_byte(changing, UPDATE, CARD, VERSION_AT, other, LEGBARO_WRONG_LENGTH);
-    with_byte(changing, DELETE, CARD, VERSION_AT, other, LEGBARO_WRONG_LENGTH);
-    with_byte(changing, APPEND, CARD, VERSION_AT, other, bad);
-    with_byte(changing, LOAD, CARD, VERSION_AT, other, bad);
-    with_byte(changing, BATCH, CARD, VERSION_AT, other, LEGBARO_BAD_BATCH);
-    with_byte(changing, DRAW, CARD, VERSION_AT, other, LEGBARO_OK);
-    with_byte(judging, JUDGE, CARD, VERSION_AT, other, LEGBARO_REJECTED);
-    with_byte(judging, PROVE, MESSAGE, VERSION_AT, other, LEGBARO_WRONG_LENGTH);
-    struct call update = file_call(changing, UPDATE);
-    buffer_resize(&update.lent[MARKS], other == LEGBARO_WITHOUT_MARKS ? 0 : 1);
+    struct card numbers = file->book.numbers;
+    numbers.version = version;
+    buffer_resize(&call->lent[CARD], second_card_bytes(version));
+    second_write_card(call->lent[CARD].bytes, &numbers);
+}
+
+/* A call on a card of another version. */
+static void with_card(const struct file *file, enum kind kind, uint64_t version, uint64_t number)
+{
+    struct call call = file_call(file, kind);
+    put_card(file, &call, version);
+    call_finish(&call, number, "a card of another version");
+}
+
+/* An update on a card of another version, with the mark that it wants: no record opens by it. */
+static void with_its_mark(const struct file *file, uint64_t version, uint64_t number)
+{
+    struct call update = file_call(file, UPDATE);
+    put_card(file, &update, version);
+    buffer_resize(&update.lent[MARKS], version == LEGBARO_WITHOUT_MARKS ? 0 : 1);
     memset(update.lent[MARKS].bytes, LEGBARO_LIVE, update.lent[MARKS].length);
-    update.lent[CARD].bytes[VERSION_AT] = (uint8_t)other;
-    call_finish(&update, bad, "a mark of the other version");
+    call_finish(&update, number, "a mark of the other version");
+}
+
+/* A card of another version: its marks may have another length there, and no record opens by it. Its draw is accepted. */
+static void cards_of_another(const struct file *changing, const struct file *judging, uint64_t other)
+{
+    uint64_t bad = LEGBARO_BAD_RECORD + 256 * changing->book.numbers.next;
+    int same_marks = (other == LEGBARO_WITHOUT_MARKS) == (changing->book.numbers.version == LEGBARO_WITHOUT_MARKS);
+    with_card(changing, UPDATE, other, same_marks ? bad : LEGBARO_WRONG_LENGTH);
+    with_card(changing, DELETE, other, same_marks ? bad : LEGBARO_WRONG_LENGTH);
+    with_card(changing, APPEND, other, bad);
+    with_card(changing, LOAD, other, bad);
+    with_card(changing, BATCH, other, same_marks ? bad : LEGBARO_BAD_BATCH);
+    with_card(changing, ASK_APPEND, other, other == LEGBARO_TWO_STEPS ? bad : LEGBARO_WRONG_HEADER);
+    with_card(changing, COMMIT, other, LEGBARO_NONE_PENDING);
+    with_card(changing, DROP, other, LEGBARO_NONE_PENDING);
+    with_card(changing, DRAW, other, LEGBARO_OK);
+    with_card(judging, JUDGE, other, LEGBARO_REJECTED);
+    with_byte(judging, PROVE, MESSAGE, VERSION_AT, other, same_marks ? LEGBARO_OK : LEGBARO_WRONG_LENGTH);
+    with_its_mark(changing, other, bad);
 }
 
 static void versions_of_a_file(uint64_t version)
@@ -96,7 +132,9 @@ static void versions_of_a_file(uint64_t version)
     file_do(&judging, DRAW);
     versions_in_changes(&changing);
     versions_in_audits(&changing, &judging);
-    cards_of_the_other(&changing, &judging);
+    for (uint64_t other = FIRST_VERSION; other <= LAST_VERSION; other++)
+        if (other != version)
+            cards_of_another(&changing, &judging, other);
     file_end(&changing);
     file_end(&judging);
     group_end();

@@ -1,4 +1,4 @@
-/* A program over an installed library, in C99 and in C++ alike: each call once, each accepted. The exit status is 0 where all were. */
+/* A program over an installed library, in C99 and in C++ alike: every call, each accepted. The exit status is 0 where all were. */
 #include "legbaro.h"
 
 #define B 4
@@ -6,31 +6,65 @@
 #define R 2
 #define T 1
 
+/* A buffer as the calls take it, and the file's own three. */
+#define LENT(bytes) bytes, sizeof bytes
+#define FILE_LENT LENT(master), LENT(card), LENT(table)
+
+static const uint8_t master[LEGBARO_MASTER_BYTES] = {1}, id[LEGBARO_ID_BYTES] = {2}, zeros[B] = {0};
+static const uint8_t block[B] = {3}, two[2 * B] = {0}, live[1] = {LEGBARO_LIVE};
+static const uint8_t marks[D + 2] = {LEGBARO_DELETED, LEGBARO_LIVE, LEGBARO_DELETED};
+static const uint8_t items[2 * LEGBARO_ITEM_BYTES(LEGBARO_TWO_STEPS, B)] = {
+    LEGBARO_ITEM_UPDATE, 0, 0, 0, 2, 0, 0, 0, 0, LEGBARO_LIVE, 0, 0, 0, 0, LEGBARO_ITEM_DELETE, 0, 0, 0, 3};
+static const uint8_t plan[LEGBARO_PLAN_BYTES] = {0, 0, 0, 1};
+static uint8_t blocks[(D + 2) * B], card[LEGBARO_TWO_STEP_CARD_BYTES], table[T * LEGBARO_RECORD_BYTES], second[T * LEGBARO_RECORD_BYTES];
+static uint8_t message[LEGBARO_MESSAGE_BYTES], reply[LEGBARO_REPLY_BYTES];
+
+/* Each answers the numbers of its calls in one, which is 0 where all were accepted. */
+static uint64_t changes(void)
+{
+    uint64_t numbers = legbaro_set_up(LENT(master), LENT(id), LEGBARO_TWO_STEPS, B, D, R, T, D - 1, blocks, (D - 1) * B, LENT(card),
+                                      LENT(table));
+    numbers |= legbaro_append(FILE_LENT, LENT(zeros));
+    numbers |= legbaro_load(FILE_LENT, LENT(two));
+    numbers |= legbaro_update(FILE_LENT, 1, LENT(zeros), LENT(live), LENT(block));
+    numbers |= legbaro_delete(FILE_LENT, 1, LENT(block), LENT(live));
+    numbers |= legbaro_batch(FILE_LENT, LENT(items));
+    return numbers;
+}
+
+static uint64_t asks(void)
+{
+    uint64_t numbers = legbaro_ask_append(FILE_LENT, LENT(second), LENT(zeros));
+    numbers |= legbaro_drop(LENT(card));
+    numbers |= legbaro_ask_load(FILE_LENT, LENT(second), LENT(two));
+    numbers |= legbaro_drop(LENT(card));
+    numbers |= legbaro_ask_update(FILE_LENT, LENT(second), 2, LENT(zeros), LENT(live), LENT(block));
+    numbers |= legbaro_drop(LENT(card));
+    numbers |= legbaro_ask_delete(FILE_LENT, LENT(second), 2, LENT(zeros), LENT(live));
+    numbers |= legbaro_drop(LENT(card));
+    numbers |= legbaro_ask_batch(FILE_LENT, LENT(second), LENT(items));
+    numbers |= legbaro_drop(LENT(card));
+    numbers |= legbaro_ask_update(FILE_LENT, LENT(second), 2, LENT(zeros), LENT(live), LENT(zeros));
+    numbers |= legbaro_commit(LENT(card));
+    return numbers;
+}
+
+/* The table that stands is the one that was asked last. */
+static uint64_t audit(void)
+{
+    uint64_t numbers = legbaro_wait(LENT(plan), 2026, 11, 16, 0);
+    numbers |= legbaro_draw(LENT(master), LENT(card), LENT(message), LENT(plan), 2026, 11, 16, 0);
+    numbers |= legbaro_prove(LENT(message), LENT(blocks), LENT(marks), LENT(second), LENT(reply));
+    numbers |= legbaro_cause(LENT(master), LENT(card), LENT(reply));
+    numbers |= legbaro_judge(LENT(master), LENT(card), LENT(reply));
+    return numbers;
+}
+
 int main(void)
 {
-    static const uint8_t master[LEGBARO_MASTER_BYTES] = {1}, id[LEGBARO_ID_BYTES] = {2}, zeros[B] = {0};
-    static uint8_t blocks[(D + 2) * B], card[LEGBARO_CARD_BYTES], table[T * LEGBARO_RECORD_BYTES];
-    static uint8_t message[LEGBARO_MESSAGE_BYTES], reply[LEGBARO_REPLY_BYTES];
-    static const uint8_t block[B] = {3}, two[2 * B] = {0}, live = LEGBARO_LIVE;
-    static const uint8_t marks[D + 2] = {LEGBARO_DELETED, LEGBARO_LIVE, LEGBARO_DELETED};
-    static const uint8_t items[2 * LEGBARO_ITEM_BYTES(LEGBARO_WITH_MARKS, B)] = {
-        LEGBARO_ITEM_UPDATE, 0, 0, 0, 2, 0, 0, 0, 0, LEGBARO_LIVE, 0, 0, 0, 0, LEGBARO_ITEM_DELETE, 0, 0, 0, 3};
-    static const uint8_t plan[LEGBARO_PLAN_BYTES] = {0, 0, 0, 1};
-    uint64_t numbers = 0;
-
-    numbers |= legbaro_set_up(master, sizeof master, id, sizeof id, LEGBARO_WITH_MARKS, B, D, R, T, D - 1, blocks, (D - 1) * B, card,
-                              sizeof card, table, sizeof table);
-    numbers |= legbaro_append(master, sizeof master, card, sizeof card, table, sizeof table, zeros, sizeof zeros);
-    numbers |= legbaro_load(master, sizeof master, card, sizeof card, table, sizeof table, two, sizeof two);
-    numbers |= legbaro_update(master, sizeof master, card, sizeof card, table, sizeof table, 1, zeros, sizeof zeros, &live, 1, block,
-                              sizeof block);
-    numbers |= legbaro_delete(master, sizeof master, card, sizeof card, table, sizeof table, 1, block, sizeof block, &live, 1);
-    numbers |= legbaro_batch(master, sizeof master, card, sizeof card, table, sizeof table, items, sizeof items);
-    numbers |= legbaro_wait(plan, sizeof plan, 2026, 11, 16, 0);
-    numbers |= legbaro_draw(master, sizeof master, card, sizeof card, message, sizeof message, plan, sizeof plan, 2026, 11, 16, 0);
-    numbers |= legbaro_prove(message, sizeof message, blocks, sizeof blocks, marks, sizeof marks, table, sizeof table, reply, sizeof reply);
-    numbers |= legbaro_cause(master, sizeof master, card, sizeof card, reply, sizeof reply);
-    numbers |= legbaro_judge(master, sizeof master, card, sizeof card, reply, sizeof reply);
+    uint64_t numbers = changes();
+    numbers |= asks();
+    numbers |= audit();
     numbers |= LEGBARO_CODE(legbaro_positions(R, D, D - 1));
     return numbers == LEGBARO_OK ? 0 : 1;
 }

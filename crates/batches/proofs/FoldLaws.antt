@@ -12,7 +12,7 @@ use native.Mathlib.Nat.{zero-mul}
 use native.Mathlib.Numerals.{add-one}
 use mathlib.Core.Path.{_≡_, refl, sym, ap, ap₂, _∙_}
 use mathlib.Core.List.{List, [], _∷_}
-use mathlib.Core.Bool.{Bool, true, false, cond, _&&_}
+use mathlib.Core.Bool.{Bool, true, false, _&&_}
 use borrow.Author.Tests.{lt-ltb, le-ltb, lt-leb}
 use lib.Dec.{eqb, leb, ltb}
 use lib.ListN.{length, drop}
@@ -21,8 +21,8 @@ use Rattle.scheme.specs.Batches.{Item, itemSize, itemsFrom, itemsOf, kindsFit, 
 use Rattle.scheme.specs.Marks.{marksFit}
 use Rattle.scheme.proofs.LadderLaws.{both}
 use Rattle.scheme.proofs.LoopLaws.{items-step}
-use Rattle.records.specs.Fields.{cardOf}
-use Rattle.records.specs.declared.Card.{Card}
+use Rattle.cards.specs.Fields.{cardOf}
+use Rattle.cards.specs.declared.Card.{Card}
 use Rattle.batches.specs.Items.{itemIn, itemChecks, batchChecks}
 
 abbrev pub left : ℕ → ℕ → ℕ → ℕ → List ℕ → List Item

@@ -9,7 +9,7 @@ ghost use lib.ListN.{length, take};
 ghost use Rattle.scheme.specs.Ladder.{first, within};
 ghost use Rattle.scheme.specs.Marks.{marksIn, marksFit};
 ghost use Rattle.scheme.specs.Batches as S;
-ghost use Rattle.records.specs.Fields.{cardOf};
+ghost use Rattle.cards.specs.Fields.{cardOf};
 ghost use Rattle.batches.specs.Items.{itemIn, itemChecks, batchChecks};
 
 // The bytes of an item: kind 1, block number 4, old block, mark, new block.
@@ -150,7 +150,7 @@ fn numbers_fit(n: u64, version: u64, size: u64, count: u64, items: &[u8]) -> boo
 
 // The code of `count` items, 1 to 64: 14 for another kind or numbers that do not rise, 15 for a mark above 1, 4 for a number that is 0 or above n, 0
 // for none of these.
-fn items_code(c: records::Card, count: u64, items: &[u8]) -> u64
+fn items_code(c: cards::Card, count: u64, items: &[u8]) -> u64
     requires { ⌜ (c .«block_bytes» ≤ 4096) × (1 ≤ count) × (count ≤ 64) × (length (now items) ≡ count * S.itemSize (c .version) (c .«block_bytes»)) ⌝ }
     ensures { λ r. ⌜ r ≡ first 0 (itemChecks (c .blocks) (S.itemsFrom (c .version) (c .«block_bytes») count (now (items .entry)))) ⌝ }
 {
@@ -175,7 +175,7 @@ fn items_code(c: records::Card, count: u64, items: &[u8]) -> u64
 
 // The code of a batch by its items alone: 14 for no item, more than 64, a length that an item's does not divide, another kind, or numbers that do not
 // rise; then 15 for a mark above 1; then 4 for a number that is 0 or above n; 0 for none of these. Writes nothing.
-pub fn batch_code(c: records::Card, items: &[u8]) -> u64
+pub fn batch_code(c: cards::Card, items: &[u8]) -> u64
     requires { ⌜ c .«block_bytes» ≤ 4096 ⌝ }
     ensures { λ r. ⌜ r ≡ first 0 (batchChecks (cardOf c) (now (items .entry))) ⌝ }
 {

@@ -23,8 +23,8 @@ use Rattle.scheme.specs.Lists.{pieces}
 use Rattle.scheme.specs.Calls.{Edit, update, delete, append, load, batch, loaded, workOf, blocksAfter}
 use Rattle.scheme.specs.Tokens.{Change, replaced, added, addedFrom}
 use Rattle.scheme.proofs.LadderLaws.{both, within-true}
-use Rattle.records.specs.Fields.{cardOf}
-use Rattle.records.specs.declared.Card.{Card}
+use Rattle.cards.specs.Fields.{cardOf}
+use Rattle.cards.specs.declared.Card.{Card}
 use Rattle.tokens.specs.Keyed.{changeOf}
 use Rattle.tokens.proofs.HeadLaws.{live-mark}
 use Rattle.batches.specs.Items.{itemIn}

@@ -1,5 +1,5 @@
 -- Laws of judging at the standard primitives: codes and causes from tests, and what a refusal and an answer leave. Assumes nothing.
---   judge-short, judge-of                              the code of a judging that is turned away
+--   judge-short, judge-refused, judge-of               the code of a judging that is turned away
 --   Lent, judge-held                                   what one that is not has
 --   judge-kept, judge-done                             what judge answers and leaves
 --   cause-kept, cause-done                             what cause answers
@@ -29,16 +29,16 @@ use Rattle.scheme.specs.Table.{bodyIn}
 use Rattle.scheme.specs.Judging as J
 use Rattle.scheme.specs.Calls.{turnedCard, judgeFault, judgeCode, judgeCard, causeCode}
 use Rattle.standard.specs.Standard.{standard}
-use Rattle.records.specs.Fields.{cardOf, cardFault}
-use Rattle.records.specs.declared.Card as DC
-use Rattle.records.proofs.FaultLaws.{card-rungs, rungs-other, rungs-passed, rungs-zero, card-fine}
+use Rattle.records.proofs.FaultLaws.{rungs-other, rungs-refused, rungs-passed, rungs-zero}
+use Rattle.cards.specs.Fields.{cardOf, cardFault}
+use Rattle.cards.specs.declared.Card as DC
+use Rattle.cards.proofs.FaultLaws.{card-rungs}
 use Rattle.scheme.proofs.LadderLaws.{kept, done}
 use Rattle.judging.specs.Causes.{sealedCause}
 
 -- what a judging that is not turned away has
 pub record Lent (master card : List ℕ) : Type 0 where
   pub key32 : length master ≡ 32
-  pub long : length card ≡ 43
   pub fault : cardFault card ≡ 0
 
 module _ (master card : List ℕ) where
@@ -52,6 +52,9 @@ module _ (master card : List ℕ) where
   pub judge-short : eqb (length master) 32 ≡ false → 1 ≡ judgeFault standard master card
   judge-short h = rungs-other (eqb (length master) 32) (cardFault card) (judge-rest (readCard card)) judge-whole h
 
+  pub judge-refused : (n : ℕ) → n ≡ cardFault card → length master ≡ 32 → (n ≡ 0 → ⊥) → n ≡ judgeFault standard master card
+  judge-refused n e l h = rungs-refused (eqb (length master) 32) (cardFault card) (judge-rest (readCard card)) judge-whole n (eq-eqb (length master) 32 l) e h
+
   pub judge-of : {b : Bool} (c : DC.Card) → length master ≡ 32 → cardFault card ≡ 0 → cardOf c ≡ readCard card
       → ltb 0 (c .«open_token») ≡ b → cond b 0 9 ≡ judgeFault standard master card
   unfolding first cardOf
@@ -62,7 +65,7 @@ module _ (master card : List ℕ) where
   pub judge-held : (n : ℕ) → n ≡ judgeFault standard master card → n ≡ 0 → Lent master card
   judge-held n e z =
       let p = rungs-zero (eqb (length master) 32) (cardFault card) (judge-rest (readCard card)) judge-whole (sym e ∙ z) in
-      record { key32 = eqb-true (length master) 32 (p .0); long = card-fine card (p .1) .long; fault = p .1 }
+      record { key32 = eqb-true (length master) 32 (p .0); fault = p .1 }
 
   module _ (reply : List ℕ) (n : ℕ) (e : n ≡ judgeFault standard master card) where
     pub judge-kept : (n ≡ 0 → ⊥) → (n ≡ judgeCode standard master card reply) × (card ≡ judgeCard standard master card reply)

@@ -11,7 +11,7 @@ ghost use Rattle.scheme.specs.Calls as S;
 ghost use Rattle.scheme.specs.Records.{headFits};
 ghost use Rattle.scheme.specs.Judging as J;
 ghost use Rattle.standard.specs.Standard.{standard};
-ghost use Rattle.records.specs.Fields.{cardOf};
+ghost use Rattle.cards.specs.Fields.{cardOf};
 ghost use Rattle.judging.specs.Causes.{causeOf, sealedCause};
 
 // Why a reply is rejected: the first cause that holds of it, `Sound` where none does.
@@ -93,7 +93,7 @@ fn sealed_cause(key: [u8; 32], counter: u64, token: u64, reply: &[u8]) -> Reason
 }
 
 // Why a reply is rejected on a card, under the master. The keys of the file are reckoned only where the clear bytes fit.
-fn reply_cause(master: &[u8], c: records::Card, reply: &[u8]) -> Reason
+fn reply_cause(master: &[u8], c: cards::Card, reply: &[u8]) -> Reason
     requires { ⌜ length (now master) ≡ 32 ⌝ }
     ensures { λ r. ⌜ causeOf r ≡ J.cause standard (now (master .entry)) (cardOf c) (now (reply .entry)) ⌝ }
 {
@@ -125,11 +125,11 @@ fn judge_fault(master: &[u8], card: &[u8]) -> u64
     if master.len() != 32 {
         return 1;
     }
-    let fault = records::check_card(card);
+    let fault = cards::check_card(card);
     if fault != 0 {
         return fault;
     }
-    let c = records::read_card(card);
+    let c = cards::read_card(card);
     if c.open_token == 0 {
         return 9;
     }
@@ -146,10 +146,10 @@ pub fn judge(master: &[u8], card: &mut [u8], reply: &[u8]) -> u64
     if fault != 0 {
         return fault;
     }
-    let c = records::read_card(card);
+    let c = cards::read_card(card);
     let why = reply_cause(master, c, reply);
-    let after = records::turned(c, c.next, 0);
-    records::write_card(card, after);
+    let after = cards::turned(c, c.next, 0);
+    cards::write_card(card, after);
     verdict(why)
 }
 
@@ -162,7 +162,7 @@ pub fn cause(master: &[u8], card: &[u8], reply: &[u8]) -> u64
     if fault != 0 {
         return fault;
     }
-    let c = records::read_card(card);
+    let c = cards::read_card(card);
     let why = reply_cause(master, c, reply);
     256 * number_of(why)
 }

@@ -36,14 +36,14 @@ pub one-record : (keys : Keys) (c : Card) (work : List (ℕ × Change)) (i : ℕ
     → x ≡ value (tokenIn standard (keys .k) (c .version) (c .ctr) i (recordAt i table))
     → y ≡ workedDigest standard (tokenKey (keys .w) i) (tokenKey (keys .z) i) (c .d) (c .r) work x
     → length y ≡ 32
-    → after ≡ put ((i - 1) * 63) (sealedRecord standard (keys .k) (c .version) (c .ctr + 1) i y) table
+    → after ≡ put ((i - 1) * 63) (sealedRecord standard (keys .k) (c .version) (c .last + 1) i y) table
     → (length (resealedUnder keys c work i (recordAt i table)) ≡ 63) × (after ≡ put ((i - 1) * 63) (resealedUnder keys c work i (recordAt i table)) table)
 unfolding resealedUnder
 one-record keys c work i table after x y e f l g =
     let digest = workedDigest standard (tokenKey (keys .w) i) (tokenKey (keys .z) i) (c .d) (c .r) work in
     let same : y ≡ digest (value (tokenIn standard (keys .k) (c .version) (c .ctr) i (recordAt i table))) = f ∙ ap digest e in (
-      ap (λ (z : List ℕ). length (sealedRecord standard (keys .k) (c .version) (c .ctr + 1) i z)) (sym same) ∙ record-long standard (keys .k) (c .version) (c .ctr + 1) i y l,
-      g ∙ ap (λ (z : List ℕ). put ((i - 1) * 63) (sealedRecord standard (keys .k) (c .version) (c .ctr + 1) i z) table) same,
+      ap (λ (z : List ℕ). length (sealedRecord standard (keys .k) (c .version) (c .last + 1) i z)) (sym same) ∙ record-long standard (keys .k) (c .version) (c .last + 1) i y l,
+      g ∙ ap (λ (z : List ℕ). put ((i - 1) * 63) (sealedRecord standard (keys .k) (c .version) (c .last + 1) i z) table) same,
     )
 
 pub bad-most : (key : List ℕ) (v ctr : ℕ) (table : List ℕ) (m i : ℕ) → firstBad standard key v ctr table m i ≤ i + m

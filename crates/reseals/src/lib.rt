@@ -1,4 +1,4 @@
-// Resealing: the unused records of a table, each opened, its token taken through the block changes of a call, and sealed at the next counter.
+// Resealing: the unused records of a table, each opened, its token taken through the block changes of a call, and sealed at the counter behind the last issued.
 // Every function equals a definition of specs/ or of the scheme's Table at the standard primitives. Nothing is assumed.
 // What a token needs to work in is made once a call and lent to every token; a block change that comes alone needs none.
 ghost use mathlib.Core.Path.{_≡_};
@@ -10,16 +10,16 @@ ghost use Rattle.octets.specs.Octets.{put};
 ghost use Rattle.scheme.specs.Records.{recordAt};
 ghost use Rattle.scheme.specs.Table as T;
 ghost use Rattle.standard.specs.Standard.{standard};
-ghost use Rattle.records.specs.Fields.{cardOf};
+ghost use Rattle.cards.specs.Fields.{cardOf};
 ghost use Rattle.tokens.specs.Keyed.{Keyed};
 ghost use Rattle.items.specs.Items.{itemsOf, alone, Lent};
 ghost use Rattle.works.specs.Runs.{Room};
 ghost use Rattle.reseals.specs.Resealed.{Opens, Shaped, resealedUnder};
 
-// Reseals record i, which opens: its token is opened, changed and sealed in the card's version at the next counter. The other records keep their bytes.
+// Reseals record i, which opens: its token is opened, changed and sealed in the card's version at the counter behind the last issued. The other records keep their bytes.
 fn reseal_one(
     keys: tokens::Keys,
-    c: records::Card,
+    c: cards::Card,
     work: items::Work,
     old_mark: &[u8],
     old: &[u8],
@@ -32,7 +32,7 @@ fn reseal_one(
     ends: &mut [u64],
     p: &mut [u8],
 )
-    requires { ⌜ (c .version < 256) × (c .counter < 4294967295) × Shaped c work × Lent work (now «old_mark») (now old) (now «new_mark») (now new) ⌝ }
+    requires { ⌜ (c .version < 256) × (c .last < 4294967295) × Shaped c work × Lent work (now «old_mark») (now old) (now «new_mark») (now new) ⌝ }
     requires { ⌜ (alone work ≡ false → Room (now walks) (now starts) (now ends) (now p)) ⌝ }
     requires { ⌜ (1 ≤ i .0) × (i .0 ≤ 65536) × (i .0 * 63 ≤ length (now table)) ⌝ }
     requires { ⌜ T.there (T.tokenIn standard (keys .k) (c .version) (c .counter) (i .0) (recordAt (i .0) (now table))) ≡ true ⌝ }
@@ -58,13 +58,13 @@ fn reseal_one(
         ends,
         p,
     );
-    seals::seal_token(k, c.version, c.counter + 1, i, y, table);
+    seals::seal_token(k, c.version, c.last + 1, i, y, table);
 }
 
 // Reseals the unused records, each of which opens, in the room that is lent.
 fn reseal_in(
     keys: tokens::Keys,
-    c: records::Card,
+    c: cards::Card,
     work: items::Work,
     old_mark: &[u8],
     old: &[u8],
@@ -104,7 +104,7 @@ fn reseal_in(
 // Reseals the unused records, each of which opens, whether they draw a changed block or not. Spent records keep their bytes.
 pub fn reseal(
     keys: tokens::Keys,
-    c: records::Card,
+    c: cards::Card,
     work: items::Work,
     old_mark: &[u8],
     old: &[u8],

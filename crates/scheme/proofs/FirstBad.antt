@@ -1,31 +1,33 @@
--- #103: "It must be the lowest unused token whose record does not open", of every change. Assumes nothing.
+-- #103: "It must be the lowest unused token whose record does not open", of every change, in one step or asked. Assumes nothing.
 --   Unused, Opens, Bad   a token that is unused, a record that opens, an unused token whose record does not
 --   Lowest               the lowest unused token whose record does not open
---   Unrefused            no refusal that comes before 7 applies
---   seven-lowest         the number is code 7 with token i exactly where none applies and i is the lowest
---   seven-exactly        the code is 7 exactly where none applies and some unused record does not open
---   mended               a table fetched again from that number on: where its records from there on open, the change is accepted
+--   Unrefused            no refusal that comes before 7 applies; UnrefusedAsk: of an ask
+--   seven-lowest         the number is code 7 with token i exactly where none applies and i is the lowest; seven-lowest-ask: of an ask
+--   seven-exactly        the code is 7 exactly where none applies and some unused record does not open; seven-exactly-ask
+--   mended               a table fetched again from that number on: where its records from there on open, the change is accepted; mended-ask
 use Prim.Native.Nat.{ℕ, zero, suc, _+_, _*_, _-_, _%_, _≤_, _<_}
 use native.Mathlib.Omega.{arith}
 use native.Mathlib.Decide.{ℕ-discrete}
 use mathlib.Core.Path.{_≡_, refl, sym, ap, _∙_, subst}
 use mathlib.Core.Logic.{_↔_}
-use mathlib.Core.List.{List}
+use mathlib.Core.List.{List, [], _∷_, _++_}
 use mathlib.Core.Option.{Option, none, some}
 use mathlib.Core.Bool.{Bool, true, false, cond, _&&_, false≢true}
 use borrow.Author.Tests.{eqb-true, eq-eqb, ne-eqb, ltb-true, ltb-false}
 use lib.ListN.{length, getD}
 use lib.Dec.{eqb, ltb}
 use Rattle.octets.specs.Octets.{ofBe, part}
+use Rattle.scheme.specs.Ladder.{first}
 use Rattle.scheme.specs.Primitives.{Primitives}
 use Rattle.scheme.specs.Records.{Card, readCard, headFits, recordAt}
 use Rattle.scheme.specs.Tokens.{keyK}
 use Rattle.scheme.specs.Table.{there, value, bodyIn, tokenIn, firstBad}
-use Rattle.scheme.specs.Calls.{Edit, handedFits, unusedBad, changeChecks, changeCode}
-use Rattle.scheme.proofs.LadderLaws.{Holds, FineCodes, last-seven, first-last, both}
+use Rattle.scheme.specs.Calls.{Edit, handedFits, lateChecks, unusedBad, changeChecks, changeCode}
+use Rattle.scheme.specs.Asks.{askChecks, askCode}
+use Rattle.scheme.proofs.LadderLaws.{Plain, Holds, last-seven, first-last, both}
 use Rattle.scheme.proofs.LimitLaws.{card-limits}
 use Rattle.scheme.proofs.TableLaws.{opens, all-open}
-use Rattle.scheme.proofs.CallLaws.{late-fine}
+use Rattle.scheme.proofs.CallLaws.{late-plain}
 
 -- "Every unused record, which is every one from next to t"
 abbrev pub Unused : Card → ℕ → Type 0
@@ -51,9 +53,12 @@ module _ (P : Primitives) (master : List ℕ) (c : Card) where
       pub bad : Bad i
       pub below : (j : ℕ) → Unused c j → j < i → Opens j (recordAt j table)
 
--- what a change checks before the records of the table: every test holds, and so none of 1, 2, 3, 15, 8, 14, 4, 12, 5 and 10 is its answer
+-- what a change checks before the records of the table: every test holds, and so none of 1, 2, 3, 15, 8, 18, 14, 4, 12, 5 and 10 is its answer
 abbrev pub Unrefused : Primitives → List ℕ → List ℕ → List ℕ → Edit → Type 0
 Unrefused P master card table edit = Holds (changeChecks P master card table edit)
+
+abbrev pub UnrefusedAsk : Primitives → List ℕ → List ℕ → List ℕ → List ℕ → Edit → Type 0
+UnrefusedAsk P master card table second edit = Holds (askChecks P master card table second edit)
 
 -- a token that is there behind a test
 behind : (b : Bool) (o : Option (List ℕ)) → there (cond b o none) ≡ true → (b ≡ true) × (o ≡ some (value o))
@@ -151,95 +156,126 @@ module _ (P : Primitives) (master : List ℕ) (c : Card) (table : List ℕ) wher
       go (yes e) = e
       go (no n) = omega (arith, first-of i j a b, first-of j i b a)
 
-module _ (P : Primitives) (master card table : List ℕ) (edit : Edit) where
-  checks-fine : FineCodes (changeChecks P master card table edit)
-  checks-fine = (omega arith, (omega arith, (omega arith, late-fine (readCard card) table edit)))
+-- a ladder whose last rung looks at the unused records
+module _ (P : Primitives) (master : List ℕ) (c : Card) (table : List ℕ) (checks : List (Bool × ℕ)) (plain : Plain checks ≡ true) (next-one : Holds checks → 1 ≤ c .next) where
+  abbrev number : ℕ
+  number = first 0 (checks ++ (eqb (unusedBad P master c table) 0, 7 + 256 * unusedBad P master c table) ∷ [])
 
-  next-one : Unrefused P master card table edit → 1 ≤ (readCard card) .next
-  next-one h = card-limits (readCard card) (h .1 .1 .0) .next1
-
-  -- the number of a change that nothing before 7 refuses
-  seven-number : Unrefused P master card table edit → 1 ≤ unusedBad P master (readCard card) table
-      → changeCode P master card table edit ≡ 7 + 256 * unusedBad P master (readCard card) table
-  unfolding changeCode
+  -- the number where nothing before 7 refuses
+  seven-number : Holds checks → 1 ≤ unusedBad P master c table → number ≡ 7 + 256 * unusedBad P master c table
   seven-number h l =
-      let bad = unusedBad P master (readCard card) table in
-      first-last (changeChecks P master card table edit) (eqb bad 0, 7 + 256 * bad) h ∙ rw (ne-eqb bad 0 (λ z. omega arith)) refl
+      let bad = unusedBad P master c table in
+      first-last checks (eqb bad 0, 7 + 256 * bad) h ∙ rw (ne-eqb bad 0 (λ z. omega arith)) refl
 
   -- a number with code 7
-  seven-has : changeCode P master card table edit % 256 ≡ 7
-      → Unrefused P master card table edit × (1 ≤ unusedBad P master (readCard card) table)
-  unfolding changeCode
+  seven-has : number % 256 ≡ 7 → Holds checks × (1 ≤ unusedBad P master c table)
   seven-has h =
-      let bad = unusedBad P master (readCard card) table in
-      let p = last-seven (changeChecks P master card table edit) (eqb bad 0, 7 + 256 * bad) checks-fine h in
+      let bad = unusedBad P master c table in
+      let p = last-seven checks (eqb bad 0, 7 + 256 * bad) plain h in
       (p .0, go bad (p .1))
     where
       go : (n : ℕ) → eqb n 0 ≡ false → 1 ≤ n
       go zero e = absurd (false≢true (sym e))
       go (suc n) e = omega arith
 
-  pub seven-lowest : (i : ℕ)
-      → (changeCode P master card table edit ≡ 7 + 256 * i) ↔ (Unrefused P master card table edit × Lowest P master (readCard card) table i)
-  seven-lowest i = (there-is, is-seven)
+  names-lowest : (i : ℕ) → (number ≡ 7 + 256 * i) ↔ (Holds checks × Lowest P master c table i)
+  names-lowest i = (there-is, is-seven)
     where
-      there-is : changeCode P master card table edit ≡ 7 + 256 * i → Unrefused P master card table edit × Lowest P master (readCard card) table i
+      there-is : number ≡ 7 + 256 * i → Holds checks × Lowest P master c table i
       there-is e =
           let p = seven-has (omega arith) in
-          let z : unusedBad P master (readCard card) table ≡ i = omega (arith, seven-number (p .0) (p .1)) in
-          (p .0, subst (Lowest P master (readCard card) table) z (bad-lowest P master (readCard card) table (p .1)))
+          let z : unusedBad P master c table ≡ i = omega (arith, seven-number (p .0) (p .1)) in
+          (p .0, subst (Lowest P master c table) z (bad-lowest P master c table (p .1)))
 
-      is-seven : Unrefused P master card table edit × Lowest P master (readCard card) table i → changeCode P master card table edit ≡ 7 + 256 * i
+      is-seven : Holds checks × Lowest P master c table i → number ≡ 7 + 256 * i
       is-seven h =
-          let some = some-bad P master (readCard card) table (next-one (h .0)) i (h .1 .bad) in
-          seven-number (h .0) some
-          ∙ ap (λ (n : ℕ). 7 + 256 * n) (one-lowest P master (readCard card) table _ i (bad-lowest P master (readCard card) table some) (h .1))
+          let some = some-bad P master c table (next-one (h .0)) i (h .1 .bad) in
+          seven-number (h .0) some ∙ ap (λ (n : ℕ). 7 + 256 * n) (one-lowest P master c table _ i (bad-lowest P master c table some) (h .1))
+
+  says-seven : (number % 256 ≡ 7) ↔ (Holds checks × ((i : ℕ) × Bad P master c table i))
+  says-seven = (some-record, code)
+    where
+      some-record : number % 256 ≡ 7 → Holds checks × ((i : ℕ) × Bad P master c table i)
+      some-record h = let p = seven-has h in (p .0, (unusedBad P master c table, bad-lowest P master c table (p .1) .bad))
+
+      code : Holds checks × ((i : ℕ) × Bad P master c table i) → number % 256 ≡ 7
+      code h = omega (arith, seven-number (h .0) (some-bad P master c table (next-one (h .0)) (h .1 .0) (h .1 .1)))
+
+-- of a change in one step
+module _ (P : Primitives) (master card table : List ℕ) (edit : Edit) where
+  next-one : Unrefused P master card table edit → 1 ≤ (readCard card) .next
+  next-one h = card-limits (readCard card) (h .1 .1 .0) .next1
+
+  pub seven-lowest : (i : ℕ)
+      → (changeCode P master card table edit ≡ 7 + 256 * i) ↔ (Unrefused P master card table edit × Lowest P master (readCard card) table i)
+  unfolding changeCode
+  seven-lowest = names-lowest P master (readCard card) table (changeChecks P master card table edit) (late-plain (readCard card) table edit) next-one
 
   pub seven-exactly : (changeCode P master card table edit % 256 ≡ 7)
       ↔ (Unrefused P master card table edit × ((i : ℕ) × Bad P master (readCard card) table i))
-  seven-exactly = (some-record, code)
-    where
-      some-record : changeCode P master card table edit % 256 ≡ 7 → Unrefused P master card table edit × ((i : ℕ) × Bad P master (readCard card) table i)
-      some-record h =
-          let p = seven-has h in
-          (p .0, (unusedBad P master (readCard card) table, bad-lowest P master (readCard card) table (p .1) .bad))
+  unfolding changeCode
+  seven-exactly = says-seven P master (readCard card) table (changeChecks P master card table edit) (late-plain (readCard card) table edit) next-one
 
-      code : Unrefused P master card table edit × ((i : ℕ) × Bad P master (readCard card) table i) → changeCode P master card table edit % 256 ≡ 7
-      code h = omega (arith, seven-number (h .0) (some-bad P master (readCard card) table (next-one (h .0)) (h .1 .0) (h .1 .1)))
+-- and of an ask
+module _ (P : Primitives) (master card table second : List ℕ) (edit : Edit) where
+  next-one-ask : UnrefusedAsk P master card table second edit → 1 ≤ (readCard card) .next
+  next-one-ask h = card-limits (readCard card) (h .1 .1 .0) .next1
+
+  pub seven-lowest-ask : (i : ℕ)
+      → (askCode P master card table second edit ≡ 7 + 256 * i) ↔ (UnrefusedAsk P master card table second edit × Lowest P master (readCard card) table i)
+  unfolding askCode
+  seven-lowest-ask = names-lowest P master (readCard card) table (askChecks P master card table second edit) (late-plain (readCard card) table edit) next-one-ask
+
+  pub seven-exactly-ask : (askCode P master card table second edit % 256 ≡ 7)
+      ↔ (UnrefusedAsk P master card table second edit × ((i : ℕ) × Bad P master (readCard card) table i))
+  unfolding askCode
+  seven-exactly-ask = says-seven P master (readCard card) table (askChecks P master card table second edit) (late-plain (readCard card) table edit) next-one-ask
 
 -- "Our planners fetch records again from the number that code 7 gives": the table is then as long as it was, has the unused records below that number as
 -- they were, and from there on, to t, records that open
-module _ (P : Primitives) (master card table fetched : List ℕ) (edit : Edit) (i : ℕ) (seven : changeCode P master card table edit ≡ 7 + 256 * i)
-    (long : length fetched ≡ length table) (kept : (j : ℕ) → Unused (readCard card) j → j < i → recordAt j fetched ≡ recordAt j table)
+module _ (P : Primitives) (master card table fetched : List ℕ) (i : ℕ) (long : length fetched ≡ length table)
+    (kept : (j : ℕ) → Unused (readCard card) j → j < i → recordAt j fetched ≡ recordAt j table)
     (sound : (j : ℕ) → i ≤ j → j ≤ (readCard card) .t → Opens P master (readCard card) j (recordAt j fetched)) where
   -- the refusals before 7 look at the table's length alone
-  unrefused : Unrefused P master card fetched edit
-  unrefused =
+  same-late : (edit : Edit) → Holds (lateChecks (readCard card) table edit) → Holds (lateChecks (readCard card) fetched edit)
+  same-late edit h =
       let c = readCard card in
-      let h = seven-lowest P master card table edit i .0 seven .0 in
-      let l = h .1 .1 .1 in
-      (h .0, (h .1 .0, (h .1 .1 .0, (subst (λ (n : ℕ). eqb n (c .t * 63) && handedFits c edit ≡ true) (sym long) (l .0), l .1))))
+      (subst (λ (n : ℕ). eqb n (c .t * 63) && handedFits c edit ≡ true) (sym long) (h .0), h .1)
 
-  all-sound : (j : ℕ) → Unused (readCard card) j → Opens P master (readCard card) j (recordAt j fetched)
-  all-sound j u = go (ltb j i) refl
-    where
-      go : (b : Bool) → ltb j i ≡ b → Opens P master (readCard card) j (recordAt j fetched)
-      go true e =
-          let l = ltb-true j i e in
-          subst (Opens P master (readCard card) j) (sym (kept j u l)) (seven-lowest P master card table edit i .0 seven .1 .below j u l)
-      go false e = sound j (ltb-false j i e) (u .1)
+  module _ (low : Lowest P master (readCard card) table i) where
+    all-sound : (j : ℕ) → Unused (readCard card) j → Opens P master (readCard card) j (recordAt j fetched)
+    all-sound j u = go (ltb j i) refl
+      where
+        go : (b : Bool) → ltb j i ≡ b → Opens P master (readCard card) j (recordAt j fetched)
+        go true e =
+            let l = ltb-true j i e in
+            subst (Opens P master (readCard card) j) (sym (kept j u l)) (low .below j u l)
+        go false e = sound j (ltb-false j i e) (u .1)
 
-  none-bad : unusedBad P master (readCard card) fetched ≡ 0
-  none-bad = go (unusedBad P master (readCard card) fetched) refl
-    where
-      go : (n : ℕ) → unusedBad P master (readCard card) fetched ≡ n → n ≡ 0
-      go zero e = refl
-      go (suc n) e =
-          let b = bad-lowest P master (readCard card) fetched (omega arith) .bad in
-          absurd (b .1 (all-sound (unusedBad P master (readCard card) fetched) (b .0)))
+    none-bad : unusedBad P master (readCard card) fetched ≡ 0
+    none-bad = go (unusedBad P master (readCard card) fetched) refl
+      where
+        go : (n : ℕ) → unusedBad P master (readCard card) fetched ≡ n → n ≡ 0
+        go zero e = refl
+        go (suc n) e =
+            let b = bad-lowest P master (readCard card) fetched (omega arith) .bad in
+            absurd (b .1 (all-sound (unusedBad P master (readCard card) fetched) (b .0)))
 
-  pub mended : changeCode P master card fetched edit ≡ 0
+  pub mended : (edit : Edit) → changeCode P master card table edit ≡ 7 + 256 * i → changeCode P master card fetched edit ≡ 0
   unfolding changeCode
-  mended =
+  mended edit seven =
       let bad = unusedBad P master (readCard card) fetched in
-      first-last (changeChecks P master card fetched edit) (eqb bad 0, 7 + 256 * bad) unrefused ∙ rw none-bad refl
+      let p = seven-lowest P master card table edit i .0 seven in
+      let h = p .0 in
+      first-last (changeChecks P master card fetched edit) (eqb bad 0, 7 + 256 * bad) (h .0, (h .1 .0, (h .1 .1 .0, same-late edit (h .1 .1 .1))))
+      ∙ rw (none-bad (p .1)) refl
+
+  pub mended-ask : (second : List ℕ) (edit : Edit) → askCode P master card table second edit ≡ 7 + 256 * i → askCode P master card fetched second edit ≡ 0
+  unfolding askCode
+  mended-ask second edit seven =
+      let bad = unusedBad P master (readCard card) fetched in
+      let p = seven-lowest-ask P master card table second edit i .0 seven in
+      let h = p .0 in
+      first-last (askChecks P master card fetched second edit) (eqb bad 0, 7 + 256 * bad)
+      (h .0, (h .1 .0, (h .1 .1 .0, (h .1 .1 .1 .0, same-late edit (h .1 .1 .1 .1)))))
+      ∙ rw (none-bad (p .1)) refl

@@ -29,10 +29,10 @@ seventeen-exactly P master card message plan now = (only, back)
     exactly : (drawCode P master card message plan now ≡ 17) ↔ (Unrefused P master card message plan now × (allowedNow plan now ≡ false))
     exactly =
         told 0 17 (allowedNow plan now) (drawEarly P master card message plan now)
-        ((eqb ((readCard card) .open′) 0, 8) ∷ (leb ((readCard card) .next) ((readCard card) .t), 6) ∷ [])
+        ((eqb ((readCard card) .open′) 0, 8) ∷ (eqb ((readCard card) .pending) 0, 18) ∷ (leb ((readCard card) .next) ((readCard card) .t), 6) ∷ [])
         (λ e. omega arith)
         ((λ e. omega arith), ((λ e. omega arith), ((λ e. omega arith), ((λ e. omega arith), tt))))
-        ((λ e. omega arith), ((λ e. omega arith), tt))
+        ((λ e. omega arith), ((λ e. omega arith), ((λ e. omega arith), tt)))
 
     only : drawCode P master card message plan now ≡ 17
         → Unrefused P master card message plan now × (waitAt plan (now .year) (now .month) (now .day) (now .minute) ≢ 0)

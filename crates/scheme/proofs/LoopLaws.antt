@@ -1,22 +1,15 @@
--- What loops over the items of a batch and over marks hold: what is left of them. Assumes nothing.
+-- What loops over the items of a batch hold: what is left of them. Assumes nothing.
 --   items-step, item-at   the items of a batch from one on, and the fields of an item at an offset
---   marks-step            the marks from one on
---   content-at            the content of a block from the buffers of blocks and marks
-use Prim.Native.Nat.{ℕ, zero, suc, _+_, _*_, _-_, _≤_, _<_}
+use Prim.Native.Nat.{ℕ, suc, _+_, _*_, _-_, _<_}
 use native.Mathlib.Omega.{arith}
 use native.Mathlib.Nat.{add-mul, one-mul}
-use mathlib.Core.Path.{_≡_, refl, sym, ap, ap₂, _∙_}
-use mathlib.Core.List.{List, [], _∷_, _++_}
-use mathlib.Core.Bool.{_&&_}
-use lib.ListN.{length, getD, take, drop}
-use lib.Seq.{drop-drop, drop-cons, getD-drop}
-use lib.Dec.{leb}
+use mathlib.Core.Path.{_≡_, sym, ap, _∙_}
+use mathlib.Core.List.{List, _∷_}
+use lib.ListN.{getD, take, drop}
+use lib.Seq.{drop-drop, getD-drop}
 use Rattle.octets.specs.Octets.{ofBe, part}
-use Rattle.scheme.specs.Lists.{pieces}
-use Rattle.scheme.specs.Marks.{marksIn, marked, marksFit}
-use Rattle.scheme.specs.Tokens.{blockAt}
+use Rattle.scheme.specs.Marks.{marksIn}
 use Rattle.scheme.specs.Batches.{Item, itemSize, readItem, itemsFrom}
-use Rattle.scheme.proofs.TableLaws.{pieces-at, pieces-length}
 
 -- the rest of a buffer, one piece of k elements further
 drop-more : (j k : ℕ) (xs : List ℕ) → drop k (drop (j * k) xs) ≡ drop ((j + 1) * k) xs
@@ -52,26 +45,3 @@ item-at v B a xs =
       mark = ap (take (marksIn v)) (drop-drop (5 + B) a xs);
       new = ap (take B) (drop-drop (5 + B + marksIn v) a xs);
     }
-
--- the marks from j on
-pub marks-step : (j : ℕ) (marks : List ℕ) → j < length marks → marksFit (drop j marks) ≡ (leb (getD marks j 0) 1 && marksFit (drop (j + 1) marks))
-unfolding marksFit
-marks-step j marks h =
-    let z : suc j ≡ j + 1 = omega arith in
-    ap marksFit (drop-cons marks j 0 h) ∙ ap (λ (i : ℕ). leb (getD marks j 0) 1 && marksFit (drop i marks)) z
-
--- contents put together from marks and blocks
-marked-at : (ms xs : List (List ℕ)) (j : ℕ) → length ms ≡ length xs → j < length xs → getD (marked ms xs) j [] ≡ getD ms j [] ++ getD xs j []
-unfolding marked
-marked-at [] [] j e h = absurd (omega arith)
-marked-at [] (x ∷ xs) j e h = absurd (omega arith)
-marked-at (m ∷ ms) [] j e h = absurd (omega arith)
-marked-at (m ∷ ms) (x ∷ xs) zero e h = refl
-marked-at (m ∷ ms) (x ∷ xs) (suc j) e h = marked-at ms xs j (omega arith) (omega arith)
-
-pub content-at : (k B n : ℕ) (marks blocks : List ℕ) (m : ℕ) → 1 ≤ m → m ≤ n
-    → blockAt m (marked (pieces k n marks) (pieces B n blocks)) ≡ part ((m - 1) * k) k marks ++ part ((m - 1) * B) B blocks
-unfolding blockAt
-content-at k B n marks blocks m h l =
-    marked-at (pieces k n marks) (pieces B n blocks) (m - 1) (pieces-length k n marks ∙ sym (pieces-length B n blocks)) (omega (arith, pieces-length B n blocks))
-    ∙ ap₂ (λ (x y : List ℕ). x ++ y) (pieces-at k n marks (m - 1) (omega arith)) (pieces-at B n blocks (m - 1) (omega arith))

@@ -3,15 +3,15 @@
 --   newer-none, newer-more  no position, and one more
 --   worked-newer            a digest after blocks are added
 --   worked-all              .. from none: the digest of all blocks
-use Prim.Native.Nat.{ℕ, zero, suc, _+_, _*_, _-_, _/_, _≤_, _<_}
+use Prim.Native.Nat.{ℕ, zero, suc, _+_, _*_, _-_, _≤_, _<_}
 use native.Mathlib.Omega.{arith}
 use mathlib.Core.Path.{_≡_, refl, sym, ap, ap₂, _∙_}
 use mathlib.Core.List.{List, [], _∷_, _++_}
 use mathlib.Core.Bool.{Bool, true, false, cond}
-use lib.ListN.{length, getD, replicate, length-append, List·getD-append}
+use lib.ListN.{length, replicate, length-append, List·getD-append}
 use lib.Dec.{leb}
 use Rattle.octets.specs.Octets.{xors}
-use Rattle.octets.proofs.XorLaws.{xors-comm, xors-assoc, xors-swap, xors-undo, xors-zeros, length-xors}
+use Rattle.octets.proofs.XorLaws.{xors-assoc, xors-swap, xors-undo, xors-zeros}
 use Rattle.scheme.specs.Lists.{xorBelow, xorFrom}
 use Rattle.scheme.specs.Primitives.{Primitives}
 use Rattle.scheme.specs.Tokens.{rowOf, columnOf, blockIn, columnsOf, blockAt, indexOf, Change, replaced, added, addedFrom, blockHash, columnHash, drawnRow}

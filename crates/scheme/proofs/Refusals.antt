@@ -12,7 +12,8 @@ use Rattle.hours.specs.Hours.{startOf, endOf, allBelow, planFits, own, over, al
 use Rattle.scheme.specs.Ladder.{first}
 use Rattle.scheme.specs.Lists.{joined, recordsFrom, xorBelow}
 use Rattle.scheme.specs.Marks.{versionFits, marksIn, live, alike, marksFit}
-use Rattle.scheme.specs.Records.{cardBytes, readCard, shapeFits, tokenFits, blocksFit, cardFits, headFits, headKnown, clearBytes, nonceBytes, recordAt}
+use Rattle.scheme.specs.Records.{cardBytes, readCard, shapeFits, tokenFits, blocksFit, asksFit, cardFits, cardLength, cardSized, cardHead, headFits, headKnown}
+use Rattle.scheme.specs.Records.{clearBytes, nonceBytes, recordAt}
 use Rattle.scheme.specs.Records.{messageBytes, readMessage, messageFits}
 use Rattle.scheme.specs.Tokens.{blockIn, columnsOf, blockAt, indexOf, keyW, keyZ, keyK, drawKey, hashKey, blockHash}
 use Rattle.scheme.specs.Tokens.{columnHash, drawnRow, rowDigest, digest, token}
@@ -39,7 +40,7 @@ pub small-inputs : (updateCode standIn key (replicate 42 0) (tableOf 0) 1 (5 ∷
     × (deleteCode standIn key (cardOf 1 2 0 1 0) (tableOf 0) 2 (6 ∷ []) [] ≡ 0)
     × (appendCode standIn key (cardOf 1 2 0 1 0) (tableOf 0) (9 ∷ []) ≡ 0)
     × (updateCode standIn key (cardOf 1 2 0 3 0) (bothFlipped 0) 1 (5 ∷ []) [] (9 ∷ []) ≡ 0)
-unfolding leap monthDays timeFits yearDays daysOfYears daysOfMonths dayNumber weekday startOf endOf allBelow planFits own over allowed allowedAt joined be le ofBe ofLe same xors first xorBelow recordsFrom cardBytes readCard shapeFits tokenFits blocksFit cardFits headFits headKnown versionFits marksIn live alike marksFit clearBytes
+unfolding leap monthDays timeFits yearDays daysOfYears daysOfMonths dayNumber weekday startOf endOf allBelow planFits own over allowed allowedAt joined be le ofBe ofLe same xors first xorBelow recordsFrom cardBytes readCard shapeFits tokenFits blocksFit asksFit cardFits cardLength cardSized cardHead headFits headKnown versionFits marksIn live alike marksFit clearBytes
     nonceBytes recordAt columnsOf blockIn blockAt indexOf keyW keyZ keyK drawKey hashKey blockHash columnHash drawnRow rowDigest digest token sealedRecord
     bodyIn tokenIn firstBad unusedBad setUpCode changeCode drawCode judgeFault judgeCode
 small-inputs = (refl, refl, refl, refl, refl, refl, refl, refl, refl, refl, refl, refl, refl, refl, refl, refl)
@@ -53,7 +54,7 @@ pub lowest : (updateCode standIn key (cardOf 1 2 0 1 0) (bothFlipped 0) 1 (5 ∷
     × (loadCode standIn key (cardOf 1 2 0 3 0) (bothFlipped 0) (8 ∷ 9 ∷ []) ≡ 0)
     × (batchCode standIn key (cardOf 1 2 0 2 0) (bothFlipped 0) (item 1 1 5 9 ++ item 2 2 6 0) ≡ 7 + 256 * 2)
     × (batchCode standIn key (cardOf 1 2 0 3 0) (bothFlipped 0) (item 1 1 5 9 ++ item 2 2 6 0) ≡ 0)
-unfolding be le ofBe ofLe same xors first xorBelow recordsFrom cardBytes readCard shapeFits tokenFits blocksFit cardFits headFits headKnown versionFits marksIn live alike marksFit clearBytes
+unfolding be le ofBe ofLe same xors first xorBelow recordsFrom cardBytes readCard shapeFits tokenFits blocksFit asksFit cardFits cardLength cardSized cardHead headFits headKnown versionFits marksIn live alike marksFit clearBytes
     nonceBytes recordAt columnsOf blockIn blockAt indexOf keyW keyZ keyK drawKey hashKey blockHash columnHash drawnRow rowDigest digest token sealedRecord
     bodyIn tokenIn firstBad unusedBad changeCode itemSize readItem itemsFrom itemsOf kindsFit risingFrom rising batchFits itemMarksFit numbersFit
 lowest = (refl, refl, refl, refl, refl, refl, refl, refl)
@@ -85,7 +86,7 @@ pub in-order : (updateCode standIn [] (unknown (cardOf 1 2 0 1 0)) (tableOf 0) 1
     × (proveCode standIn (set drawn 22 3) [] [] [] (replicate 110 0) ≡ 3)
     × (proveCode standIn drawn (5 ∷ 6 ∷ []) [] (replicate 62 0) (replicate 110 0) ≡ 1)
     × (proveCode standIn drawn (5 ∷ 6 ∷ []) [] (replicate 63 0) (replicate 110 0) ≡ 0)
-unfolding leap monthDays timeFits yearDays daysOfYears daysOfMonths dayNumber weekday startOf endOf allBelow planFits own over allowed allowedAt joined be le ofBe ofLe same xors first xorBelow recordsFrom cardBytes readCard shapeFits tokenFits blocksFit cardFits headFits headKnown versionFits marksIn live alike marksFit clearBytes
+unfolding leap monthDays timeFits yearDays daysOfYears daysOfMonths dayNumber weekday startOf endOf allBelow planFits own over allowed allowedAt joined be le ofBe ofLe same xors first xorBelow recordsFrom cardBytes readCard shapeFits tokenFits blocksFit asksFit cardFits cardLength cardSized cardHead headFits headKnown versionFits marksIn live alike marksFit clearBytes
     nonceBytes recordAt messageBytes readMessage messageFits columnsOf blockIn blockAt indexOf keyW keyZ keyK drawKey hashKey blockHash columnHash
     drawnRow rowDigest digest token sealedRecord bodyIn tokenIn firstBad unusedBad setUpCode changeCode drawCode messageFor drawMessage judgeFault
     judgeCode proveCode
@@ -109,7 +110,7 @@ pub loads : (loadCode standIn key (cardOf 1 2 0 1 0) (tableOf 0) [] ≡ 12)
     × (setUpCode standIn key id 1 1 5 5 1 16777217 [] (replicate 43 0) (replicate 63 0) ≡ 3)
     × (proveCode standIn (set drawn 26 1) (5 ∷ []) [] (replicate 63 0) (replicate 110 0) ≡ 0)
     × (proveCode standIn (set drawn 26 0) [] [] (replicate 63 0) (replicate 110 0) ≡ 3)
-unfolding leap monthDays timeFits yearDays daysOfYears daysOfMonths dayNumber weekday startOf endOf allBelow planFits own over allowed allowedAt joined be le ofBe ofLe same xors first xorBelow recordsFrom cardBytes readCard shapeFits tokenFits blocksFit cardFits headFits headKnown versionFits marksIn live alike marksFit clearBytes
+unfolding leap monthDays timeFits yearDays daysOfYears daysOfMonths dayNumber weekday startOf endOf allBelow planFits own over allowed allowedAt joined be le ofBe ofLe same xors first xorBelow recordsFrom cardBytes readCard shapeFits tokenFits blocksFit asksFit cardFits cardLength cardSized cardHead headFits headKnown versionFits marksIn live alike marksFit clearBytes
     nonceBytes recordAt messageBytes readMessage messageFits columnsOf blockIn blockAt indexOf keyW keyZ keyK drawKey hashKey blockHash columnHash
     drawnRow rowDigest digest token sealedRecord bodyIn tokenIn firstBad unusedBad setUpCode changeCode drawCode messageFor drawMessage judgeFault
     judgeCode proveCode
@@ -124,7 +125,7 @@ pub loads-in-order : (loadCode standIn key (unknown (cardOf 3 2 0 1 0)) (tableOf
     × (loadCode standIn key (cardIn 2 1 16777216 0 1 0) (tableOf 0) (8 ∷ 9 ∷ 8 ∷ []) ≡ 12)
     × (loadCode standIn key (cardOf 1 16777216 4294967295 1 0) (tableOf 4294967295) (8 ∷ []) ≡ 5)
     × (loadCode standIn key (cardOf 1 2 4294967295 1 0) (flipped 4294967295) (8 ∷ []) ≡ 10)
-unfolding be le ofBe ofLe same xors first xorBelow recordsFrom cardBytes readCard shapeFits tokenFits blocksFit cardFits headFits headKnown versionFits marksIn live alike marksFit clearBytes
+unfolding be le ofBe ofLe same xors first xorBelow recordsFrom cardBytes readCard shapeFits tokenFits blocksFit asksFit cardFits cardLength cardSized cardHead headFits headKnown versionFits marksIn live alike marksFit clearBytes
     nonceBytes recordAt columnsOf blockIn blockAt indexOf keyW keyZ keyK drawKey hashKey blockHash columnHash drawnRow rowDigest digest token sealedRecord
     bodyIn tokenIn firstBad unusedBad setUpCode changeCode drawCode judgeFault judgeCode
 loads-in-order = (refl, refl, refl, refl, refl, refl, refl, refl)
@@ -150,7 +151,7 @@ pub batches : (batchCode standIn key (cardOf 1 2 0 1 0) (tableOf 0) (item 1 1 5 
     × (batchCode standIn key (cardOf 1 2 0 1 0) (tableOf 0) (item 1 0 5 9 ++ item 2 2 6 0) ≡ 4)
     × (batchCode standIn key (cardOf 1 2 0 1 0) (tableOf 0) (item 1 1 5 9 ++ item 2 3 6 0) ≡ 4)
     × (batchCode standIn key (cardOf 1 2 0 1 0) (flipped 0) (item 1 1 5 9) ≡ 7 + 256 * 2)
-unfolding be le ofBe ofLe same xors first xorBelow recordsFrom cardBytes readCard shapeFits tokenFits blocksFit cardFits headFits headKnown versionFits marksIn live alike marksFit clearBytes
+unfolding be le ofBe ofLe same xors first xorBelow recordsFrom cardBytes readCard shapeFits tokenFits blocksFit asksFit cardFits cardLength cardSized cardHead headFits headKnown versionFits marksIn live alike marksFit clearBytes
     nonceBytes recordAt columnsOf blockIn blockAt indexOf keyW keyZ keyK drawKey hashKey blockHash columnHash drawnRow rowDigest digest token sealedRecord
     bodyIn tokenIn firstBad unusedBad changeCode itemSize readItem itemsFrom itemsOf kindsFit risingFrom rising batchFits itemMarksFit numbersFit
 batches = (refl, refl, refl, refl, refl, refl, refl, refl, refl, refl, refl, refl, refl, refl, refl)
@@ -164,7 +165,7 @@ pub batches-in-order : (batchCode standIn key (unknown (cardOf 3 2 0 1 0)) (tabl
     × (batchCode standIn key (cardOf 1 2 4294967295 1 0) (tableOf 4294967295) (item 3 1 5 9) ≡ 14)
     × (batchCode standIn key (cardOf 1 2 4294967295 1 0) (tableOf 4294967295) (item 1 3 5 9) ≡ 4)
     × (batchCode standIn key (cardOf 1 2 4294967295 1 0) (flipped 4294967295) (item 1 1 5 9) ≡ 10)
-unfolding be le ofBe ofLe same xors first xorBelow recordsFrom cardBytes readCard shapeFits tokenFits blocksFit cardFits headFits headKnown versionFits marksIn live alike marksFit clearBytes
+unfolding be le ofBe ofLe same xors first xorBelow recordsFrom cardBytes readCard shapeFits tokenFits blocksFit asksFit cardFits cardLength cardSized cardHead headFits headKnown versionFits marksIn live alike marksFit clearBytes
     nonceBytes recordAt columnsOf blockIn blockAt indexOf keyW keyZ keyK drawKey hashKey blockHash columnHash drawnRow rowDigest digest token sealedRecord
     bodyIn tokenIn firstBad unusedBad changeCode itemSize readItem itemsFrom itemsOf kindsFit risingFrom rising batchFits itemMarksFit numbersFit
 batches-in-order = (refl, refl, refl, refl, refl, refl, refl, refl)
@@ -172,7 +173,7 @@ batches-in-order = (refl, refl, refl, refl, refl, refl, refl, refl)
 -- #105: "Set-up is told the version, else 3"; "a mark above 1 (15)"; "version 1 lends marks empty"; "Wherever 01 wants version 1 it now wants the card's"
 pub marks : (setUpCode standIn key id 0 1 5 5 1 2 (8 ∷ 9 ∷ []) (replicate 43 0) (replicate 63 0) ≡ 3)
     × (setUpCode standIn key id 2 1 5 5 1 2 (8 ∷ 9 ∷ []) (replicate 43 0) (replicate 63 0) ≡ 0)
-    × (setUpCode standIn key id 3 1 5 5 1 2 (8 ∷ 9 ∷ []) (replicate 43 0) (replicate 63 0) ≡ 3)
+    × (setUpCode standIn key id 4 1 5 5 1 2 (8 ∷ 9 ∷ []) (replicate 43 0) (replicate 63 0) ≡ 3)
     × (updateCode standIn key (cardTwo 1 2 0 1 0) (tableIn 2 0) 1 (5 ∷ []) (0 ∷ []) (9 ∷ []) ≡ 0)
     × (updateCode standIn key (cardTwo 1 2 0 1 0) (tableIn 2 0) 1 (5 ∷ []) (1 ∷ []) (9 ∷ []) ≡ 0)
     × (updateCode standIn key (cardTwo 1 2 0 1 0) (tableIn 2 0) 1 (5 ∷ []) (2 ∷ []) (9 ∷ []) ≡ 15)
@@ -181,7 +182,7 @@ pub marks : (setUpCode standIn key id 0 1 5 5 1 2 (8 ∷ 9 ∷ []) (replicate 43
     × (updateCode standIn key (cardOf 1 2 0 1 0) (tableOf 0) 1 (5 ∷ []) (0 ∷ []) (9 ∷ []) ≡ 1)
     × (updateCode standIn key (cardTwo 1 2 0 1 0) (tableOf 0) 1 (5 ∷ []) (0 ∷ []) (9 ∷ []) ≡ 7 + 256 * 1)
     × (updateCode standIn key (cardOf 1 2 0 1 0) (tableIn 2 0) 1 (5 ∷ []) [] (9 ∷ []) ≡ 7 + 256 * 1)
-    × (updateCode standIn key (set (cardOf 1 2 0 1 0) 2 3) (tableOf 0) 1 (5 ∷ []) [] (9 ∷ []) ≡ 2)
+    × (updateCode standIn key (set (cardOf 1 2 0 1 0) 2 4) (tableOf 0) 1 (5 ∷ []) [] (9 ∷ []) ≡ 2)
     × (deleteCode standIn key (cardTwo 1 2 0 1 0) (tableIn 2 0) 2 (6 ∷ []) (0 ∷ []) ≡ 0)
     × (deleteCode standIn key (cardTwo 1 2 0 1 0) (tableIn 2 0) 2 (6 ∷ []) (2 ∷ []) ≡ 15)
     × (deleteCode standIn key (cardTwo 1 2 0 1 0) (tableIn 2 0) 2 (6 ∷ []) [] ≡ 1)
@@ -196,7 +197,7 @@ pub marks : (setUpCode standIn key id 0 1 5 5 1 2 (8 ∷ 9 ∷ []) (replicate 43
     × (proveCode standIn (drawnIn 2) (5 ∷ 6 ∷ []) [] (replicate 63 0) (replicate 110 0) ≡ 1)
     × (proveCode standIn drawn (5 ∷ 6 ∷ []) (0 ∷ 0 ∷ []) (replicate 63 0) (replicate 110 0) ≡ 1)
     × (drawCode standIn key (cardTwo 1 2 0 1 0) blank always saturday ≡ 0)
-unfolding leap monthDays timeFits yearDays daysOfYears daysOfMonths dayNumber weekday startOf endOf allBelow planFits own over allowed allowedAt joined be le ofBe ofLe same xors first xorBelow recordsFrom cardBytes readCard shapeFits tokenFits blocksFit cardFits headFits headKnown versionFits marksIn live alike marksFit clearBytes
+unfolding leap monthDays timeFits yearDays daysOfYears daysOfMonths dayNumber weekday startOf endOf allBelow planFits own over allowed allowedAt joined be le ofBe ofLe same xors first xorBelow recordsFrom cardBytes readCard shapeFits tokenFits blocksFit asksFit cardFits cardLength cardSized cardHead headFits headKnown versionFits marksIn live alike marksFit clearBytes
     nonceBytes recordAt messageBytes readMessage messageFits columnsOf blockIn blockAt indexOf keyW keyZ keyK drawKey hashKey blockHash columnHash drawnRow rowDigest digest token sealedRecord
     bodyIn tokenIn firstBad unusedBad setUpCode changeCode drawCode messageFor drawMessage judgeFault judgeCode proveCode itemSize readItem itemsFrom itemsOf kindsFit risingFrom rising batchFits itemMarksFit numbersFit
 marks = (refl, refl, refl, refl, refl, refl, refl, refl, refl, refl, refl, refl, refl, refl, refl, refl, refl, refl, refl, refl, refl, refl, refl, refl, refl, refl)
@@ -213,7 +214,7 @@ pub marks-in-order : (setUpCode standIn [] id 0 1 5 5 1 2 (8 ∷ 9 ∷ []) (repl
     × (batchCode standIn key (cardTwo 1 2 0 1 0) (tableIn 2 0) (markedItem 1 0 5 2 9) ≡ 15)
     × (proveCode standIn (drawnIn 2) (5 ∷ 6 ∷ []) (0 ∷ 2 ∷ []) (replicate 62 0) (replicate 110 0) ≡ 1)
     × (proveCode standIn (set (drawnIn 2) 22 3) (5 ∷ 6 ∷ []) (0 ∷ 2 ∷ []) (replicate 63 0) (replicate 110 0) ≡ 3)
-unfolding leap monthDays timeFits yearDays daysOfYears daysOfMonths dayNumber weekday startOf endOf allBelow planFits own over allowed allowedAt joined be le ofBe ofLe same xors first xorBelow recordsFrom cardBytes readCard shapeFits tokenFits blocksFit cardFits headFits headKnown versionFits marksIn live alike marksFit clearBytes
+unfolding leap monthDays timeFits yearDays daysOfYears daysOfMonths dayNumber weekday startOf endOf allBelow planFits own over allowed allowedAt joined be le ofBe ofLe same xors first xorBelow recordsFrom cardBytes readCard shapeFits tokenFits blocksFit asksFit cardFits cardLength cardSized cardHead headFits headKnown versionFits marksIn live alike marksFit clearBytes
     nonceBytes recordAt messageBytes readMessage messageFits columnsOf blockIn blockAt indexOf keyW keyZ keyK drawKey hashKey blockHash columnHash drawnRow rowDigest digest token sealedRecord
     bodyIn tokenIn firstBad unusedBad setUpCode changeCode drawCode messageFor drawMessage judgeFault judgeCode proveCode itemSize readItem itemsFrom itemsOf kindsFit risingFrom rising batchFits itemMarksFit numbersFit
 marks-in-order = (refl, refl, refl, refl, refl, refl, refl, refl, refl, refl, refl)
@@ -239,7 +240,7 @@ pub hours : (drawCode standIn key (cardOf 1 2 0 1 0) blank fridayNight saturday 
     × (drawCode standIn key (cardOf 1 2 0 1 0) blank (set never 27 160) saturday ≡ 17)
     × (drawCode standIn key (cardOf 1 2 0 2 1) blank never saturday ≡ 17)
     × (drawCode standIn key (cardOf 1 2 0 3 0) blank never saturday ≡ 17)
-unfolding leap monthDays timeFits yearDays daysOfYears daysOfMonths dayNumber weekday startOf endOf allBelow planFits own over allowed allowedAt joined be le ofBe ofLe first cardBytes readCard shapeFits tokenFits blocksFit cardFits headKnown versionFits drawCode
+unfolding leap monthDays timeFits yearDays daysOfYears daysOfMonths dayNumber weekday startOf endOf allBelow planFits own over allowed allowedAt joined be le ofBe ofLe first cardBytes readCard shapeFits tokenFits blocksFit asksFit cardFits cardLength cardSized cardHead headKnown versionFits drawCode
 hours = (refl, refl, refl, refl, refl, refl, refl, refl, refl, refl, refl, refl, refl, refl, refl, refl, refl, refl, refl, refl)
 
 -- "positions as r × planned rows / present blocks, rounded up"; "r is at most 512 and the present blocks, and these at most the planned rows, else 3"; "after 3,

@@ -24,11 +24,12 @@ use Rattle.scheme.specs.Primitives.{Primitives}
 use Rattle.scheme.specs.Records.{Card, cardBytes, readCard, headFits, nonceBytes, recordAt}
 use Rattle.scheme.specs.Tokens.{Change, keyK, drawKey, hashKey, workedDigest}
 use Rattle.scheme.specs.Table.{there, value, bodyIn, tokenIn, resealedRecord, reseal}
-use Rattle.scheme.specs.Calls.{Edit, update, delete, append, load, batch, workOf, blocksAfter, changedCard, unusedBad, changeCode, changeCard, changeTable}
+use Rattle.scheme.specs.Calls.{Edit, update, delete, append, load, batch, workOf, blocksAfter, askedCard, committedCard, changedCard, unusedBad, changeCode, changeCard, changeTable}
 use Rattle.scheme.proofs.TokenLaws.{length-worked}
-use Rattle.scheme.proofs.RecordLaws.{card-back, token-back, record-long}
-use Rattle.scheme.proofs.LimitLaws.{Limits, card-limits, limits-small}
+use Rattle.scheme.proofs.RecordLaws.{token-back, record-long}
+use Rattle.scheme.proofs.LimitLaws.{Limits, card-limits}
 use Rattle.scheme.proofs.TableLaws.{opens, all-open}
+use Rattle.scheme.proofs.CardLaws.{order-back, changed-order}
 use Rattle.scheme.proofs.CallLaws.{Changed, change-has}
 
 -- a record in the front of a table
@@ -102,13 +103,13 @@ module _ (P : Primitives) where
 
     resealed-63 : (i : ℕ) (rec : List ℕ) → length rec ≡ 63 → there (tokenIn P key (c .version) (c .ctr) i rec) ≡ true → length (resealedRecord P master c work i rec) ≡ 63
     unfolding resealedRecord
-    resealed-63 i rec h o = record-long P key (c .version) (c .ctr + 1) i (made i (value (tokenIn P key (c .version) (c .ctr) i rec))) (made-32 i rec h o)
+    resealed-63 i rec h o = record-long P key (c .version) (c .last + 1) i (made i (value (tokenIn P key (c .version) (c .ctr) i rec))) (made-32 i rec h o)
 
-    pub resealed-opens : (i : ℕ) (rec : List ℕ) → length rec ≡ 63 → there (tokenIn P key (c .version) (c .ctr) i rec) ≡ true → c .ctr ≤ 4294967295 → i ≤ 65536
-        → tokenIn P key (c .version) (c .ctr + 1) i (resealedRecord P master c work i rec) ≡ some (made i (value (tokenIn P key (c .version) (c .ctr) i rec)))
+    pub resealed-opens : (i : ℕ) (rec : List ℕ) → length rec ≡ 63 → there (tokenIn P key (c .version) (c .ctr) i rec) ≡ true → c .last ≤ 4294967295 → i ≤ 65536
+        → tokenIn P key (c .version) (c .last + 1) i (resealedRecord P master c work i rec) ≡ some (made i (value (tokenIn P key (c .version) (c .ctr) i rec)))
     unfolding resealedRecord
     resealed-opens i rec h o l m =
-        token-back P key (c .version) (c .ctr + 1) i (made i (value (tokenIn P key (c .version) (c .ctr) i rec))) (made-32 i rec h o) (omega arith) (omega arith)
+        token-back P key (c .version) (c .last + 1) i (made i (value (tokenIn P key (c .version) (c .ctr) i rec))) (made-32 i rec h o) (omega arith) (omega arith)
 
     -- a table of t records after m records from i on were resealed
     pub record Resealed (t m i : ℕ) (table after : List ℕ) : Type 0 where
@@ -172,15 +173,14 @@ module _ (P : Primitives) where
   abbrev pub inside : List ℕ → Card → List ℕ → ℕ → Option (List ℕ)
   inside master c table i = tokenIn P (keyK P master (c .id)) (c .version) (c .ctr) i (recordAt i table)
 
-  -- the number of blocks after an accepted change is within its limits
-  blocks-fit : (master : List ℕ) (c : Card) (table : List ℕ) (edit : Edit) → Changed P master c table edit
-      → (1 ≤ blocksAfter c edit) × (blocksAfter c edit ≤ 16777216)
-  blocks-fit master c table (update m old mark new) u = let l = card-limits c (u .fits) in (l .n1, l .nmost)
-  blocks-fit master c table (delete m old mark) u = let l = card-limits c (u .fits) in (l .n1, l .nmost)
+  -- an accepted change takes no block away and stays within the most
+  pub blocks-fit : (master : List ℕ) (c : Card) (table : List ℕ) (edit : Edit) → Changed P master c table edit
+      → (c .n ≤ blocksAfter c edit) × (blocksAfter c edit ≤ 16777216)
+  blocks-fit master c table (update m old mark new) u = (omega arith, card-limits c (u .order .fits) .nmost)
+  blocks-fit master c table (delete m old mark) u = (omega arith, card-limits c (u .order .fits) .nmost)
   blocks-fit master c table (append new) u = (omega arith, omega (arith, ltb-true (c .n) 16777216 (u .placed 5)))
-  blocks-fit master c table (load blocks) u =
-      (omega (arith, card-limits c (u .fits) .n1), leb-true (c .n + length blocks / c .B) 16777216 (u .placed 5))
-  blocks-fit master c table (batch items) u = let l = card-limits c (u .fits) in (l .n1, l .nmost)
+  blocks-fit master c table (load blocks) u = (omega arith, leb-true (c .n + length blocks / c .B) 16777216 (u .placed 5))
+  blocks-fit master c table (batch items) u = (omega arith, card-limits c (u .order .fits) .nmost)
 
   -- an accepted change
   module _ (master card table : List ℕ) (edit : Edit) (ok : changeCode P master card table edit ≡ 0) where
@@ -189,7 +189,7 @@ module _ (P : Primitives) where
 
     limits : Limits ((readCard card) .B) ((readCard card) .d) ((readCard card) .r) ((readCard card) .t) ((readCard card) .n) ((readCard card) .ctr) ((readCard card) .next)
         ((readCard card) .open′)
-    limits = card-limits (readCard card) (has .fits)
+    limits = card-limits (readCard card) (has .order .fits)
 
     -- the unused records open
     open-before : (j : ℕ) → (readCard card) .next ≤ j → j < (readCard card) .next + ((readCard card) .t + 1 - (readCard card) .next)
@@ -222,36 +222,21 @@ module _ (P : Primitives) where
 
     -- the unused record i opens, one counter up, to what the change makes of its token
     pub now-inside : (i : ℕ) → (readCard card) .next ≤ i → i ≤ (readCard card) .t
-        → tokenIn P (keyK P master ((readCard card) .id)) ((readCard card) .version) ((readCard card) .ctr + 1) i (recordAt i (changeTable P master card table edit))
+        → tokenIn P (keyK P master ((readCard card) .id)) ((readCard card) .version) ((readCard card) .last + 1) i (recordAt i (changeTable P master card table edit))
         ≡ some (made master (readCard card) (workOf (readCard card) edit) i (value (inside master (readCard card) table i)))
     now-inside i h l =
         let c = readCard card in
-        ap (tokenIn P (keyK P master (c .id)) (c .version) (c .ctr + 1) i) (record-changed i h l)
+        ap (tokenIn P (keyK P master (c .id)) (c .version) (c .last + 1) i) (record-changed i h l)
         ∙ resealed-opens master c (workOf c edit) i (recordAt i table)
-        (record-63 i (c .t) table (omega (arith, limits .next1)) l (has .long)) (open-before i h (omega arith)) (limits .ctrmost) (omega (arith, limits .tmost))
-
-    after-limits : Limits ((readCard card) .B) ((readCard card) .d) ((readCard card) .r) ((readCard card) .t) (blocksAfter (readCard card) edit) ((readCard card) .ctr + 1)
-        ((readCard card) .next) ((readCard card) .open′)
-    after-limits =
-        let fit = blocks-fit master (readCard card) table edit has in
-        record {
-          shape = limits .shape;
-          t1 = limits .t1;
-          tmost = limits .tmost;
-          n1 = fit .0;
-          nmost = fit .1;
-          ctrmost = omega (arith, has .room);
-          next1 = limits .next1;
-          nextmost = limits .nextmost;
-          last = limits .last;
-        }
+        (record-63 i (c .t) table (omega (arith, limits .next1)) l (has .long)) (open-before i h (omega arith)) (omega (arith, has .room)) (omega (arith, limits .tmost))
 
     pub card-changed : readCard (changeCard P master card table edit) ≡ changedCard (readCard card) (blocksAfter (readCard card) edit)
     unfolding changeCard
     card-changed =
         let c = readCard card in
-        rw ok (card-back (changedCard c (blocksAfter c edit)) (limits-small (changedCard c (blocksAfter c edit)) (unfold changedCard in has .id8)
-        (unfold changedCard in after-limits)))
+        let n = blocksAfter c edit in
+        let fit = blocks-fit master c table edit has in
+        rw ok (order-back (changedCard c n) (changed-order c (has .order) n (fit .0) (fit .1) (has .room)))
 
     -- the card's bytes
     pub card-written : changeCard P master card table edit ≡ cardBytes (changedCard (readCard card) (blocksAfter (readCard card) edit))
@@ -262,7 +247,7 @@ module _ (P : Primitives) where
     pub left : (i : ℕ) (x : List ℕ) → (readCard card) .next ≤ i → i ≤ (readCard card) .t → inside master (readCard card) table i ≡ some x
         → inside master (readCard (changeCard P master card table edit)) (changeTable P master card table edit) i
         ≡ some (made master (readCard card) (workOf (readCard card) edit) i x)
-    unfolding changedCard
+    unfolding changedCard committedCard askedCard
     left i x h l o =
         let c = readCard card in
         let z : value (inside master c table i) ≡ x = rw o in

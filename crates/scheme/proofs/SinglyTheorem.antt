@@ -15,7 +15,7 @@ use mathlib.Core.Bool.{Bool, true, false, cond}
 use borrow.Author.Tests.{eqb-true, ltb-true}
 use lib.ListN.{length, take, drop, replicate}
 use lib.Dec.{eqb, ltb}
-use Rattle.octets.specs.Octets.{le, be}
+use Rattle.octets.specs.Octets.{le, be, part}
 use Rattle.scheme.specs.Lists.{pieces}
 use Rattle.scheme.specs.Primitives.{Primitives}
 use Rattle.scheme.specs.Marks.{live, deleted, alike as allMarked}
@@ -23,8 +23,8 @@ use Rattle.scheme.specs.Records.{Card, cardBytes, readCard}
 use Rattle.scheme.specs.Tokens.{Change, replaced, added, addedFrom, drawKey, hashKey, workedDigest}
 use Rattle.scheme.specs.Table.{there, value}
 use Rattle.scheme.specs.Batches.{Item, itemsOf, itemBlock, batchWork}
-use Rattle.scheme.specs.Calls.{Edit, update, delete, append, load, batch, loaded, workOf, blocksAfter, changedCard, changeCode, changeCard, changeTable}
-use Rattle.scheme.specs.Calls.{loadCode, loadCard, loadTable, batchCode, batchCard, batchTable}
+use Rattle.scheme.specs.Calls.{Edit, update, delete, append, load, batch, loaded, workOf, blocksAfter, askedCard, committedCard, changedCard, changeCode}
+use Rattle.scheme.specs.Calls.{changeCard, changeTable, loadCode, loadCard, loadTable, batchCode, batchCard, batchTable}
 use Rattle.scheme.specs.Book.{answer, change, Lent, Ran, run}
 use Rattle.scheme.proofs.TokenLaws.{worked-append}
 use Rattle.scheme.proofs.LadderLaws.{both}
@@ -54,29 +54,49 @@ unfoldable pub workSingly : Card → List Edit → List (ℕ × Change)
 workSingly c [] = []
 workSingly c (e ∷ es) = workOf c e ++ workSingly (changedCard c (blocksAfter c e)) es
 
--- a card with another number of blocks, at another counter
-unfoldable atCounter : Card → ℕ → ℕ → Card
-atCounter c n ctr = record { version = c .version; id = c .id; B = c .B; d = c .d; r = c .r; t = c .t; n = n; ctr = ctr; next = c .next; open′ = c .open′ }
+-- a card with another file id, another number of blocks and another counter, which is the last issued, and nothing pending
+unfoldable atCounter : Card → List ℕ → ℕ → ℕ → Card
+atCounter c id n ctr = record {
+  version = c .version;
+  id = id;
+  B = c .B;
+  d = c .d;
+  r = c .r;
+  t = c .t;
+  n = n;
+  ctr = ctr;
+  next = c .next;
+  open′ = c .open′;
+  last = ctr;
+  pending = 0;
+  count = 0;
+}
 
--- each change takes one counter step
-stepped : (es : List Edit) (c : Card) → cardAfter c es ≡ atCounter c ((cardAfter c es) .n) (c .ctr + length es)
-unfolding cardAfter atCounter changedCard
-stepped [] c = let z : c .ctr + 0 ≡ c .ctr = omega arith in rw z
-stepped (e ∷ es) c =
+-- each change takes one counter step from the last issued
+stepped : (e : Edit) (es : List Edit) (c : Card) → cardAfter c (e ∷ es) ≡ atCounter c (c .id) ((cardAfter c (e ∷ es)) .n) (c .last + length (e ∷ es))
+unfolding cardAfter atCounter changedCard committedCard askedCard
+stepped e [] c = refl
+stepped e (f ∷ es) c =
     let n = blocksAfter c e in
-    let z : c .ctr + 1 + length es ≡ c .ctr + suc (length es) = omega arith in
-    stepped es (changedCard c n) ∙ ap (atCounter c ((cardAfter (changedCard c n) es) .n)) z
+    let z : c .last + 1 + length (f ∷ es) ≡ c .last + suc (length (f ∷ es)) = omega arith in
+    stepped f es (changedCard c n) ∙ ap (atCounter c (c .id) ((cardAfter (changedCard c n) (f ∷ es)) .n)) z
 
--- the counter has eight bytes of its own on a card
+-- the counter and, in version 3, the last issued have eight bytes of their own on a card
 apart : (c : Card) (n x y : ℕ) → length (c .id) ≡ 8
-    → (take 27 (cardBytes (atCounter c n x)) ≡ take 27 (cardBytes (atCounter c n y))) × (drop 35 (cardBytes (atCounter c n x)) ≡ drop 35 (cardBytes (atCounter c n y)))
+    → (take 27 (cardBytes (atCounter c (c .id) n x)) ≡ take 27 (cardBytes (atCounter c (c .id) n y)))
+    × (part 35 8 (cardBytes (atCounter c (c .id) n x)) ≡ part 35 8 (cardBytes (atCounter c (c .id) n y)))
+    × (drop 51 (cardBytes (atCounter c (c .id) n x)) ≡ drop 51 (cardBytes (atCounter c (c .id) n y)))
 unfolding atCounter cardBytes be le
 apart c n x y h =
-    by-eight (λ id. (take 27 (cardBytes (at id x)) ≡ take 27 (cardBytes (at id y))) × (drop 35 (cardBytes (at id x)) ≡ drop 35 (cardBytes (at id y))))
-    (λ x₁ x₂ x₃ x₄ x₅ x₆ x₇ x₈. (refl, refl)) (c .id) h
+    by-eight
+    (λ id. (take 27 (cardBytes (atCounter c id n x)) ≡ take 27 (cardBytes (atCounter c id n y)))
+    × (part 35 8 (cardBytes (atCounter c id n x)) ≡ part 35 8 (cardBytes (atCounter c id n y)))
+    × (drop 51 (cardBytes (atCounter c id n x)) ≡ drop 51 (cardBytes (atCounter c id n y))))
+    (λ x₁ x₂ x₃ x₄ x₅ x₆ x₇ x₈. (refl, refl, end (eqb (c .version) 3))) (c .id) h
   where
-    at : List ℕ → ℕ → Card
-    at id ctr = record { version = c .version; id = id; B = c .B; d = c .d; r = c .r; t = c .t; n = n; ctr = ctr; next = c .next; open′ = c .open′ }
+    end : (b : Bool) → drop 8 (cond b (be 8 x ++ be 8 0 ++ be 4 0) []) ≡ drop 8 (cond b (be 8 y ++ be 8 0 ++ be 4 0) [])
+    end true = refl
+    end false = refl
 
 -- what is the same of card and table after one change, `one` and `left`, and after several made singly
 pub record Alike (P : Primitives) (master card table : List ℕ) (single : Ran) (one left : List ℕ) (count : ℕ) : Type 0 where
@@ -86,14 +106,15 @@ pub record Alike (P : Primitives) (master card table : List ℕ) (single : Ran) 
   pub long : length left ≡ length (single .table)
   pub spent : take (((readCard card) .next - 1) * 63) left ≡ take (((readCard card) .next - 1) * 63) (single .table)
   pub front : take 27 one ≡ take 27 (single .card)
-  pub behind : drop 35 one ≡ drop 35 (single .card)
-  pub oneStep : (readCard one) .ctr ≡ (readCard card) .ctr + 1
-  pub manySteps : (readCard (single .card)) .ctr ≡ (readCard card) .ctr + count
+  pub between : part 35 8 one ≡ part 35 8 (single .card)
+  pub behind : drop 51 one ≡ drop 51 (single .card)
+  pub oneStep : ((readCard one) .ctr ≡ (readCard card) .last + 1) × ((readCard one) .last ≡ (readCard card) .last + 1)
+  pub manySteps : ((readCard (single .card)) .ctr ≡ (readCard card) .last + count) × ((readCard (single .card)) .last ≡ (readCard card) .last + count)
 
-module _ (P : Primitives) (master : List ℕ) where
+module _ (P : Primitives) (master asked : List ℕ) where
   -- what changes made singly leave
   abbrev ran : List Edit → List ℕ → List ℕ → Ran
-  ran es card table = run P (calls master es) card table
+  ran es card table = run P (calls master es) card table asked
 
   -- the first of them
   module _ (e : Edit) (es : List Edit) (card table : List ℕ) where
@@ -135,7 +156,7 @@ module _ (P : Primitives) (master : List ℕ) where
   last-table : (es : List Edit) (card table : List ℕ) → length table ≡ (readCard card) .t * 63 → AllAccepted ((ran es card table) .numbers)
       → (take (((readCard card) .next - 1) * 63) ((ran es card table) .table) ≡ take (((readCard card) .next - 1) * 63) table)
       × (length ((ran es card table) .table) ≡ (readCard card) .t * 63)
-  unfolding changedCard
+  unfolding changedCard committedCard askedCard
   last-table [] card table l a = unfold run in (refl, l)
   last-table (e ∷ es) card table l a =
       let ok = accepted e es card table a in
@@ -149,7 +170,7 @@ module _ (P : Primitives) (master : List ℕ) where
     last-token : (es : List Edit) (card table x : List ℕ) → (readCard card) .next ≤ i → i ≤ (readCard card) .t
         → inside P master (readCard card) table i ≡ some x → AllAccepted ((ran es card table) .numbers)
         → inside P master (readCard ((ran es card table) .card)) ((ran es card table) .table) i ≡ some (made P master (readCard card) (workSingly (readCard card) es) i x)
-    unfolding workSingly workedDigest changedCard
+    unfolding workSingly workedDigest changedCard committedCard askedCard
     last-token [] card table x h l o a = unfold run in o
     last-token (e ∷ es) card table x h l o a =
         let c = readCard card in
@@ -169,13 +190,13 @@ module _ (P : Primitives) (master : List ℕ) where
       (a : AllAccepted ((ran (e ∷ es) card table) .numbers))
       (same : workOf (readCard card) one ≡ workSingly (readCard card) (e ∷ es))
       (count : blocksAfter (readCard card) one ≡ (cardAfter (readCard card) (e ∷ es)) .n) where
-    after : changeCard P master card table one ≡ cardBytes (atCounter (readCard card) ((cardAfter (readCard card) (e ∷ es)) .n) ((readCard card) .ctr + 1))
-    unfolding atCounter changedCard
+    after : changeCard P master card table one ≡ cardBytes (atCounter (readCard card) ((readCard card) .id) ((cardAfter (readCard card) (e ∷ es)) .n) ((readCard card) .last + 1))
+    unfolding atCounter changedCard committedCard askedCard
     after = card-written P master card table one ok ∙ ap (λ (n : ℕ). cardBytes (changedCard (readCard card) n)) count
 
     singly : (ran (e ∷ es) card table) .card
-        ≡ cardBytes (atCounter (readCard card) ((cardAfter (readCard card) (e ∷ es)) .n) ((readCard card) .ctr + length (e ∷ es)))
-    singly = card-bytes e es card table a ∙ ap cardBytes (stepped (e ∷ es) (readCard card))
+        ≡ cardBytes (atCounter (readCard card) ((readCard card) .id) ((cardAfter (readCard card) (e ∷ es)) .n) ((readCard card) .last + length (e ∷ es)))
+    singly = card-bytes e es card table a ∙ ap cardBytes (stepped e es (readCard card))
 
     -- the token that either leaves
     token-left : (i : ℕ) → (readCard card) .next ≤ i → i ≤ (readCard card) .t
@@ -193,7 +214,7 @@ module _ (P : Primitives) (master : List ℕ) where
         let c = readCard card in
         let has = change-has P master card table one ok in
         let n = (cardAfter c (e ∷ es)) .n in
-        let sides = apart c n (c .ctr + 1) (c .ctr + length (e ∷ es)) (has .id8) in
+        let sides = apart c n (c .last + 1) (c .last + length (e ∷ es)) (has .order .id8) in
         let tables = last-table (e ∷ es) card table (has .long) a in
         record {
           opens = λ i h l. rw (token-left i h l);
@@ -203,9 +224,10 @@ module _ (P : Primitives) (master : List ℕ) where
           long = table-long P master card table one ok ∙ sym (tables .1);
           spent = spent-kept P master card table one ok ∙ sym (tables .0);
           front = ap (take 27) after ∙ sides .0 ∙ sym (ap (take 27) singly);
-          behind = ap (drop 35) after ∙ sides .1 ∙ sym (ap (drop 35) singly);
-          oneStep = rw (card-changed P master card table one ok) (unfold changedCard in refl);
-          manySteps = rw (last-card (e ∷ es) card table a, stepped (e ∷ es) c) (unfold atCounter in refl);
+          between = ap (part 35 8) after ∙ sides .1 ∙ sym (ap (part 35 8) singly);
+          behind = ap (drop 51) after ∙ sides .2 ∙ sym (ap (drop 51) singly);
+          oneStep = rw (card-changed P master card table one ok) (unfold changedCard committedCard askedCard in (refl, refl));
+          manySteps = rw (last-card (e ∷ es) card table a, stepped e es c) (unfold atCounter in (refl, refl));
         }
 
   pub alike : (card table : List ℕ) (one : Edit) (es : List Edit) → 1 ≤ length es → changeCode P master card table one ≡ 0
@@ -221,13 +243,13 @@ appends [] = []
 appends (x ∷ xs) = append x ∷ appends xs
 
 append-work : (c : Card) (xs : List (List ℕ)) → addedFrom (c .n + 1) (allMarked (live (c .version)) xs) ≡ workSingly c (appends xs)
-unfolding addedFrom allMarked workSingly changedCard
+unfolding addedFrom allMarked workSingly changedCard committedCard askedCard
 append-work c [] = refl
 append-work c (x ∷ xs) =
     ap (λ (work : List (ℕ × Change)). (c .n + 1, added (live (c .version) ++ x)) ∷ work) (append-work (changedCard c (c .n + 1)) xs)
 
 append-count : (c : Card) (xs : List (List ℕ)) → c .n + length xs ≡ (cardAfter c (appends xs)) .n
-unfolding cardAfter changedCard
+unfolding cardAfter changedCard committedCard askedCard
 append-count c [] = omega arith
 append-count c (x ∷ xs) = let z : c .n + suc (length xs) ≡ c .n + 1 + length xs = omega arith in z ∙ append-count (changedCard c (c .n + 1)) xs
 
@@ -239,7 +261,7 @@ append-many (x ∷ xs) = ap suc (append-many xs)
 abbrev pub blocksIn : Card → List ℕ → List (List ℕ)
 blocksIn c blocks = pieces (c .B) (length blocks / c .B) blocks
 
-module _ (P : Primitives) (master card table blocks : List ℕ) where
+module _ (P : Primitives) (master card table asked blocks : List ℕ) where
   abbrev news : List (List ℕ)
   news = blocksIn (readCard card) blocks
 
@@ -261,13 +283,13 @@ module _ (P : Primitives) (master card table blocks : List ℕ) where
       go (suc k) e = omega arith
 
   -- "the table's tokens after it are those after the same blocks appended one by one; only counter and sealing differ", where all are accepted
-  pub load-singly : loadCode P master card table blocks ≡ 0 → AllAccepted ((run P (calls master (appends news)) card table) .numbers)
-      → Alike P master card table (run P (calls master (appends news)) card table) (loadCard P master card table blocks) (loadTable P master card table blocks) (length news)
+  pub load-singly : loadCode P master card table blocks ≡ 0 → AllAccepted ((run P (calls master (appends news)) card table asked) .numbers)
+      → Alike P master card table (run P (calls master (appends news)) card table asked) (loadCard P master card table blocks) (loadTable P master card table blocks) (length news)
   load-singly ok a =
       let c = readCard card in
       let n = append-many news in
       rw (← n)
-      (alike P master card table (load blocks) (appends news) (omega (arith, not-empty ok)) ok a (unfold loaded in append-work c news)
+      (alike P master asked card table (load blocks) (appends news) (omega (arith, not-empty ok)) ok a (unfold loaded in append-work c news)
       (ap (λ (k : ℕ). c .n + k) (sym many) ∙ append-count c news))
 
 -- an item as a change of its own: "1 update, 2 delete"
@@ -296,14 +318,14 @@ item-count c x = go (eqb (x .kind) 1)
     go false = refl
 
 corrected-work : (c : Card) (xs : List Item) → batchWork (c .version) (c .B) xs ≡ workSingly c (corrections xs)
-unfolding batchWork workSingly changedCard
+unfolding batchWork workSingly changedCard committedCard askedCard
 corrected-work c [] = refl
 corrected-work c (x ∷ xs) =
     rw (item-work c x, item-count c x)
     (ap (λ (work : List (ℕ × Change)). (x .number, replaced (x .mark ++ x .old) (itemBlock (c .version) (c .B) x)) ∷ work) (corrected-work (changedCard c (c .n)) xs))
 
 corrected-count : (c : Card) (xs : List Item) → c .n ≡ (cardAfter c (corrections xs)) .n
-unfolding cardAfter changedCard
+unfolding cardAfter changedCard committedCard askedCard
 corrected-count c [] = refl
 corrected-count c (x ∷ xs) =
     corrected-count (changedCard c (c .n)) xs ∙ ap (λ (n : ℕ). (cardAfter (changedCard c n) (corrections xs)) .n) (sym (item-count c x))
@@ -313,14 +335,14 @@ corrected-many [] = refl
 corrected-many (x ∷ xs) = ap suc (corrected-many xs)
 
 -- "The tokens inside equal those after the same changes made singly, where all those are accepted; only the counter and sealing differ"
-pub batch-singly : (P : Primitives) (master card table items : List ℕ) → batchCode P master card table items ≡ 0
-    → AllAccepted ((run P (calls master (corrections (itemsOf (readCard card) items))) card table) .numbers)
-    → Alike P master card table (run P (calls master (corrections (itemsOf (readCard card) items))) card table)
+pub batch-singly : (P : Primitives) (master card table asked items : List ℕ) → batchCode P master card table items ≡ 0
+    → AllAccepted ((run P (calls master (corrections (itemsOf (readCard card) items))) card table asked) .numbers)
+    → Alike P master card table (run P (calls master (corrections (itemsOf (readCard card) items))) card table asked)
     (batchCard P master card table items) (batchTable P master card table items) (length (itemsOf (readCard card) items))
-batch-singly P master card table items ok a =
+batch-singly P master card table asked items ok a =
     let c = readCard card in
     let xs = itemsOf c items in
     let n = corrected-many xs in
     let fit = batch-has c items (change-has P master card table (batch items) ok .placed 14) in
     rw (← n)
-    (alike P master card table (batch items) (corrections xs) (omega (arith, fit .some)) ok a (corrected-work c xs) (corrected-count c xs))
+    (alike P master asked card table (batch items) (corrections xs) (omega (arith, fit .some)) ok a (corrected-work c xs) (corrected-count c xs))

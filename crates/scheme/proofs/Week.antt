@@ -13,16 +13,18 @@ use Rattle.hours.specs.Hours.{startOf, endOf, allBelow, planFits, own, over, al
 use Rattle.scheme.specs.Ladder.{first}
 use Rattle.scheme.specs.Lists.{joined, pieces, recordsFrom, xorBelow}
 use Rattle.scheme.specs.Marks.{versionFits, marksIn, live, deleted, alike, marksFit}
-use Rattle.scheme.specs.Records.{cardBytes, readCard, shapeFits, tokenFits, blocksFit, cardFits, headFits, headKnown, clearBytes, nonceBytes, recordAt}
+use Rattle.scheme.specs.Records.{cardBytes, readCard, shapeFits, tokenFits, blocksFit, asksFit, cardFits, cardLength, cardSized, cardHead, headFits, headKnown}
+use Rattle.scheme.specs.Records.{clearBytes, nonceBytes, recordAt}
 use Rattle.scheme.specs.Tokens.{rowOf, columnOf, blockIn, columnsOf, blockAt, indexOf, keyW, keyZ, keyK, drawKey, hashKey, blockHash}
 use Rattle.scheme.specs.Tokens.{columnHash, drawnRow, positionOf, rowDigest, digest, token, addedFrom, mixed, changedDigest, workedDigest}
 use Rattle.scheme.specs.Table.{sealedRecord, bodyIn, tokenIn, firstBad, resealedRecord, reseal}
 use Rattle.scheme.specs.Judging.{causeNumber, verdictOf, cause, verdict}
 use Rattle.scheme.specs.Batches.{itemSize, readItem, itemsFrom, itemsOf, kindsFit, risingFrom, rising, batchFits, itemMarksFit, numbersFit, itemBlock, batchWork}
-use Rattle.scheme.specs.Calls.{update, delete, append, load, batch, loaded, changedCard, turnedCard, setUpCode, setUpCard, setUpTable, unusedBad, changeCode}
-use Rattle.scheme.specs.Calls.{changeCard, changeTable, drawCode, drawCard, judgeFault, judgeCode, judgeCard}
-use Rattle.scheme.specs.Book.{Call, change, draw, judge, Lent, Ran, run, started, bookCard, withBlocks, withTurn, freshToken, freshRecord}
-use Rattle.scheme.specs.Book.{bookTable, bookFault, bookAfter, Honest, corrected}
+use Rattle.scheme.specs.Calls.{update, delete, append, load, batch, loaded, askedCard, committedCard, droppedCard, changedCard, turnedCard, setUpCode, setUpCard}
+use Rattle.scheme.specs.Calls.{setUpTable, unusedBad, changeCode, changeCard, changeTable, drawCode, drawCard, judgeFault, judgeCode, judgeCard}
+use Rattle.scheme.specs.Asks.{askCode, askCard, askSecond, settleCode, commitCard, dropCard}
+use Rattle.scheme.specs.Book.{Call, change, ask, commit, draw, judge, Lent, Ran, run, started, bookCard, withAsk, committed, dropped, withBlocks, withTurn}
+use Rattle.scheme.specs.Book.{freshToken, freshRecord, bookTable, bookFault, bookAfter, Honest, corrected}
 use Rattle.scheme.proofs.SinglyTheorem.{calls}
 use Rattle.scheme.proofs.Computed.{standIn, key, id, item, markedItem, always, never, saturday, blank}
 
@@ -30,9 +32,10 @@ use Rattle.scheme.proofs.Computed.{standIn, key, id, item, markedItem, 
 abbrev lent : Call → Lent
 lent x = record { master = key; call = x }
 
--- after a set-up in version 2 with B 1, d 2, r 1, t 1: judge with nothing open; update block 0; update by a block of two bytes; update with a master of 31 bytes;
--- update, append and delete; delete block 4; load nothing; load two blocks; a batch of no bytes; update block 2 and delete block 4 in a batch;
--- draw to a buffer of 90 bytes; draw outside every window; draw; draw and append while a token is open; judge a reply of no bytes; "t 1, one draw judged, draw"; append with no token left
+-- after a set-up in version 3 with B 1, d 2, r 1, t 1: judge with nothing open; update block 0; update by a block of two bytes; update with a master of 31 bytes;
+-- update, append and delete; delete block 4; load nothing; load two blocks; a batch of no bytes; update block 2 and delete block 4 in a batch; ask an append with a
+-- second table of 62 bytes; ask an update; append and draw while it is pending; commit; commit again; ask a delete; drop it; drop again; draw to a buffer of 90
+-- bytes; draw outside every window; draw; draw and append while a token is open; judge a reply of no bytes; "t 1, one draw judged, draw"; append with no token left
 abbrev weekCalls : List Lent
 weekCalls =
     lent (judge []) ∷ lent (change (update 0 (5 ∷ []) (0 ∷ []) (9 ∷ []))) ∷ lent (change (update 1 (5 ∷ []) (0 ∷ []) (9 ∷ 9 ∷ [])))
@@ -40,95 +43,53 @@ weekCalls =
     ∷ lent (change (update 1 (5 ∷ []) (0 ∷ []) (9 ∷ []))) ∷ lent (change (append (8 ∷ []))) ∷ lent (change (delete 3 (8 ∷ []) (0 ∷ []))) ∷ lent (change (delete 4 (8 ∷ []) (0 ∷ [])))
     ∷ lent (change (load [])) ∷ lent (change (load (3 ∷ 4 ∷ [])))
     ∷ lent (change (batch [])) ∷ lent (change (batch (markedItem 1 2 6 0 7 ++ markedItem 2 4 3 0 9)))
+    ∷ lent (ask (append (2 ∷ [])) (replicate 62 0)) ∷ lent (ask (update 5 (4 ∷ []) (0 ∷ []) (6 ∷ [])) (replicate 63 0)) ∷ lent (change (append (2 ∷ [])))
+    ∷ lent (draw blank always saturday) ∷ lent commit ∷ lent commit ∷ lent (ask (delete 1 (9 ∷ []) (0 ∷ [])) (replicate 63 0)) ∷ lent Call.drop ∷ lent Call.drop
     ∷ lent (draw (replicate 90 0) always saturday) ∷ lent (draw blank never saturday) ∷ lent (draw blank always saturday) ∷ lent (draw blank always saturday) ∷ lent (change (append (8 ∷ []))) ∷ lent (judge []) ∷ lent (draw blank always saturday)
     ∷ lent (change (append (3 ∷ []))) ∷ []
 
 pub week : _≡_ {A = Ran}
     (run standIn weekCalls
-    (setUpCard standIn key id 2 1 2 1 1 2 (5 ∷ 6 ∷ []) (replicate 43 0) (replicate 63 0))
-    (setUpTable standIn key id 2 1 2 1 1 2 (5 ∷ 6 ∷ []) (replicate 43 0) (replicate 63 0)))
+    (setUpCard standIn key id 3 1 2 1 1 2 (5 ∷ 6 ∷ []) (replicate 63 0) (replicate 63 0))
+    (setUpTable standIn key id 3 1 2 1 1 2 (5 ∷ 6 ∷ []) (replicate 63 0) (replicate 63 0)) [])
     (record {
-      numbers = 9 ∷ 4 ∷ 1 ∷ 1 ∷ 0 ∷ 0 ∷ 0 ∷ 4 ∷ 12 ∷ 0 ∷ 14 ∷ 0 ∷ 1 ∷ 17 ∷ 0 ∷ 8 ∷ 8 ∷ 11 ∷ 6 ∷ 0 ∷ [];
+      numbers = 9 ∷ 4 ∷ 1 ∷ 1 ∷ 0 ∷ 0 ∷ 0 ∷ 4 ∷ 12 ∷ 0 ∷ 14 ∷ 0 ∷ 1 ∷ 0 ∷ 18 ∷ 18 ∷ 0 ∷ 19 ∷ 0 ∷ 0 ∷ 19 ∷ 1 ∷ 17 ∷ 0 ∷ 8 ∷ 8 ∷ 11 ∷ 6 ∷ 0 ∷ [];
       card =
-          0 ∷ 41 ∷ 2 ∷ 1 ∷ 2 ∷ 3 ∷ 4 ∷ 5 ∷ 6 ∷ 7 ∷ 8 ∷ 0 ∷ 1 ∷ 0 ∷ 0 ∷ 0 ∷ 2 ∷ 0 ∷ 1 ∷ 0 ∷ 0 ∷ 0 ∷ 1 ∷ 0 ∷ 0 ∷ 0 ∷ 6 ∷ 0 ∷ 0 ∷ 0 ∷ 0 ∷ 0 ∷ 0 ∷ 0 ∷ 6
-          ∷ 0 ∷ 0 ∷ 0 ∷ 2 ∷ 0 ∷ 0 ∷ 0 ∷ 0 ∷ [];
-      table = sealedRecord standIn (keyK standIn key id) 2 5 1 (token standIn key id 2 1 1 ((0 ∷ 9 ∷ []) ∷ (0 ∷ 7 ∷ []) ∷ (1 ∷ 0 ∷ []) ∷ (1 ∷ 0 ∷ []) ∷ (0 ∷ 4 ∷ []) ∷ []));
+          0 ∷ 61 ∷ 3 ∷ 1 ∷ 2 ∷ 3 ∷ 4 ∷ 5 ∷ 6 ∷ 7 ∷ 8 ∷ 0 ∷ 1 ∷ 0 ∷ 0 ∷ 0 ∷ 2 ∷ 0 ∷ 1 ∷ 0 ∷ 0 ∷ 0 ∷ 1 ∷ 0 ∷ 0 ∷ 0 ∷ 6 ∷ 0 ∷ 0 ∷ 0 ∷ 0 ∷ 0 ∷ 0 ∷ 0 ∷ 8
+          ∷ 0 ∷ 0 ∷ 0 ∷ 2 ∷ 0 ∷ 0 ∷ 0 ∷ 0 ∷ 0 ∷ 0 ∷ 0 ∷ 0 ∷ 0 ∷ 0 ∷ 0 ∷ 8 ∷ 0 ∷ 0 ∷ 0 ∷ 0 ∷ 0 ∷ 0 ∷ 0 ∷ 0 ∷ 0 ∷ 0 ∷ 0 ∷ 0 ∷ [];
+      table = sealedRecord standIn (keyK standIn key id) 3 6 1 (token standIn key id 2 1 1 ((0 ∷ 9 ∷ []) ∷ (0 ∷ 7 ∷ []) ∷ (1 ∷ 0 ∷ []) ∷ (1 ∷ 0 ∷ []) ∷ (0 ∷ 6 ∷ []) ∷ []));
     })
-unfolding leap monthDays timeFits yearDays daysOfYears daysOfMonths dayNumber weekday startOf endOf allBelow planFits own over allowed allowedAt run be le ofBe ofLe put same xors first joined pieces xorBelow recordsFrom cardBytes readCard shapeFits tokenFits blocksFit cardFits headFits headKnown versionFits marksIn live deleted alike marksFit clearBytes
+unfolding leap monthDays timeFits yearDays daysOfYears daysOfMonths dayNumber weekday startOf endOf allBelow planFits own over allowed allowedAt run be le ofBe ofLe put same xors first joined pieces xorBelow recordsFrom cardBytes readCard shapeFits tokenFits blocksFit asksFit cardFits cardLength cardSized cardHead headFits headKnown versionFits marksIn live deleted alike marksFit clearBytes
     nonceBytes recordAt rowOf columnOf blockIn columnsOf blockAt indexOf keyW keyZ keyK drawKey hashKey blockHash columnHash drawnRow positionOf rowDigest digest token
-    addedFrom loaded itemSize readItem itemsFrom itemsOf kindsFit risingFrom rising batchFits itemMarksFit numbersFit itemBlock batchWork mixed changedDigest workedDigest sealedRecord bodyIn tokenIn firstBad resealedRecord reseal causeNumber verdictOf cause verdict changedCard
+    addedFrom loaded itemSize readItem itemsFrom itemsOf kindsFit risingFrom rising batchFits itemMarksFit numbersFit itemBlock batchWork mixed changedDigest workedDigest sealedRecord bodyIn tokenIn firstBad resealedRecord reseal causeNumber verdictOf cause verdict changedCard committedCard askedCard
     turnedCard setUpCode setUpCard setUpTable unusedBad changeCode changeCard changeTable drawCode drawCard judgeFault judgeCode judgeCard
+    droppedCard askCode askCard askSecond settleCode commitCard dropCard
 week = refl
 
 -- the list theorem speaks of this list
-pub week-honest : (setUpCode standIn key id 2 1 2 1 1 2 (5 ∷ 6 ∷ []) (replicate 43 0) (replicate 63 0) ≡ 0) × Honest standIn weekCalls (started key id 2 1 2 1 1 2 (5 ∷ 6 ∷ []))
-unfolding leap monthDays timeFits yearDays daysOfYears daysOfMonths dayNumber weekday startOf endOf allBelow planFits own over allowed allowedAt be le ofBe ofLe put same xors first joined pieces xorBelow recordsFrom cardBytes readCard shapeFits tokenFits blocksFit cardFits headFits headKnown versionFits marksIn live deleted alike marksFit clearBytes nonceBytes
+pub week-honest : (setUpCode standIn key id 3 1 2 1 1 2 (5 ∷ 6 ∷ []) (replicate 63 0) (replicate 63 0) ≡ 0) × Honest standIn weekCalls (started key id 3 1 2 1 1 2 (5 ∷ 6 ∷ []))
+unfolding leap monthDays timeFits yearDays daysOfYears daysOfMonths dayNumber weekday startOf endOf allBelow planFits own over allowed allowedAt be le ofBe ofLe put same xors first joined pieces xorBelow recordsFrom cardBytes readCard shapeFits tokenFits blocksFit asksFit cardFits cardLength cardSized cardHead headFits headKnown versionFits marksIn live deleted alike marksFit clearBytes nonceBytes
     recordAt rowOf columnOf blockIn columnsOf blockAt indexOf keyW keyZ keyK drawKey hashKey blockHash columnHash drawnRow positionOf rowDigest digest token addedFrom
-    loaded itemSize readItem itemsFrom itemsOf kindsFit risingFrom rising batchFits itemMarksFit numbersFit itemBlock batchWork mixed changedDigest workedDigest sealedRecord bodyIn tokenIn firstBad resealedRecord reseal causeNumber verdictOf cause verdict changedCard turnedCard
-    setUpCode setUpCard setUpTable unusedBad changeCode changeCard changeTable drawCode drawCard judgeFault judgeCode judgeCard started bookCard withBlocks withTurn
+    loaded itemSize readItem itemsFrom itemsOf kindsFit risingFrom rising batchFits itemMarksFit numbersFit itemBlock batchWork mixed changedDigest workedDigest sealedRecord bodyIn tokenIn firstBad resealedRecord reseal causeNumber verdictOf cause verdict changedCard committedCard askedCard turnedCard
+    setUpCode setUpCard setUpTable unusedBad changeCode changeCard changeTable drawCode drawCard judgeFault judgeCode judgeCard started bookCard withAsk committed dropped withBlocks withTurn
+    droppedCard askCode askCard askSecond settleCode commitCard dropCard
     freshToken freshRecord bookTable bookFault bookAfter corrected
 week-honest =
-    let own : length key ≡ 32 → key ≡ key = λ l. refl in (
-      refl,
-      (
-        own,
-        λ e. tt,
-        (
-          own,
-          λ e. absurd (omega arith),
-          (
-            own,
-            λ e. absurd (omega arith),
-            (
-              λ l. absurd (omega arith),
-              λ e. absurd (omega arith),
-              (
-                own,
-                λ e. refl,
-                (
-                  own,
-                  λ e. tt,
-                  (
-                    own,
-                    λ e. refl,
-                    (
-                      own,
-                      λ e. absurd (omega arith),
-                      (
-                        own,
-                        λ e. tt,
-                        (
-                          own,
-                          λ e. tt,
-                          (
-                            own,
-                            λ e. tt,
-                            (own, λ e. (refl, (refl, tt)), (own, λ e. tt, (own, λ e. tt, (own, λ e. tt, (own, λ e. tt, (own, λ e. tt, (own, λ e. tt, (own, λ e. tt, (own, λ e. tt, tt))))))))),
-                          ),
-                        ),
-                      ),
-                    ),
-                  ),
-                ),
-              ),
-            ),
-          ),
-        ),
-      ),
-    )
+    let own : length key ≡ 32 → key ≡ key = λ l. refl in
+    (refl, (own, λ e. tt, (own, λ e. absurd (omega arith), (own, λ e. absurd (omega arith), (λ l. absurd (omega arith), λ e. absurd (omega arith), (own, λ e. refl, (own, λ e. tt, (own, λ e. refl, (own, λ e. absurd (omega arith), (own, λ e. tt, (own, λ e. tt, (own, λ e. tt, (own, λ e. (refl, (refl, tt)), (own, λ e. tt, (own, λ e. refl, (own, λ e. tt, (own, λ e. tt, (own, λ e. tt, (own, λ e. tt, (own, λ e. refl, (own, λ e. tt, (own, λ e. tt, (own, λ e. tt, (own, λ e. tt, (own, λ e. tt, (own, λ e. tt, (own, λ e. tt, (own, λ e. tt, (own, λ e. tt, (own, λ e. tt, tt))))))))))))))))))))))))))))))
 
 -- what calls leave after a set-up in a version with B 1, d 5, r 4, t 1 and the one block 5
 abbrev monthOf : ℕ → List Lent → Ran
 monthOf v xs =
     run standIn xs
     (setUpCard standIn key id v 1 5 4 1 1 (5 ∷ []) (replicate 43 0) (replicate 63 0))
-    (setUpTable standIn key id v 1 5 4 1 1 (5 ∷ []) (replicate 43 0) (replicate 63 0))
+    (setUpTable standIn key id v 1 5 4 1 1 (5 ∷ []) (replicate 43 0) (replicate 63 0)) []
 
 -- the card and the table of that file with its contents at a counter
 abbrev after : ℕ → List ℕ → ℕ → List (List ℕ) → Ran
 after v numbers ctr blocks = record {
   numbers = numbers;
-  card = cardBytes (record { version = v; id = id; B = 1; d = 5; r = 4; t = 1; n = length blocks; ctr = ctr; next = 1; open′ = 0 });
+  card = cardBytes (record { version = v; id = id; B = 1; d = 5; r = 4; t = 1; n = length blocks; ctr = ctr; next = 1; open′ = 0; last = ctr; pending = 0; count = 0 });
   table = sealedRecord standIn (keyK standIn key id) v ctr 1 (token standIn key id 5 4 1 blocks);
 }
 
@@ -137,10 +98,10 @@ six = (5 ∷ []) ∷ (6 ∷ []) ∷ (7 ∷ []) ∷ (8 ∷ []) ∷ (9 ∷ []) ∷
 
 pub month : (monthOf 1 (calls key (load (6 ∷ 7 ∷ 8 ∷ 9 ∷ 3 ∷ []) ∷ [])) ≡ after 1 (0 ∷ []) 1 six)
     × (monthOf 1 (calls key (append (6 ∷ []) ∷ append (7 ∷ []) ∷ append (8 ∷ []) ∷ append (9 ∷ []) ∷ append (3 ∷ []) ∷ [])) ≡ after 1 (0 ∷ 0 ∷ 0 ∷ 0 ∷ 0 ∷ []) 5 six)
-unfolding run be le ofBe ofLe put same xors first joined pieces xorBelow recordsFrom cardBytes readCard shapeFits tokenFits blocksFit cardFits headFits headKnown versionFits marksIn live deleted alike marksFit clearBytes
+unfolding run be le ofBe ofLe put same xors first joined pieces xorBelow recordsFrom cardBytes readCard shapeFits tokenFits blocksFit asksFit cardFits cardLength cardSized cardHead headFits headKnown versionFits marksIn live deleted alike marksFit clearBytes
     nonceBytes recordAt rowOf columnOf blockIn columnsOf blockAt indexOf keyW keyZ keyK drawKey hashKey blockHash columnHash drawnRow positionOf rowDigest digest token
     addedFrom loaded itemSize readItem itemsFrom itemsOf kindsFit risingFrom rising batchFits itemMarksFit numbersFit itemBlock batchWork mixed changedDigest workedDigest sealedRecord
-    bodyIn tokenIn firstBad resealedRecord reseal changedCard setUpCode setUpCard setUpTable unusedBad changeCode changeCard changeTable
+    bodyIn tokenIn firstBad resealedRecord reseal changedCard committedCard askedCard setUpCode setUpCard setUpTable unusedBad changeCode changeCard changeTable
 month = (refl, refl)
 
 abbrev mended : List (List ℕ)
@@ -155,8 +116,8 @@ pub morning : (monthOf 1 (calls key (load (6 ∷ 7 ∷ 8 ∷ 9 ∷ 3 ∷ []) ∷
     × (monthOf 2 (calls key (load (6 ∷ 7 ∷ 8 ∷ 9 ∷ 3 ∷ []) ∷ batch (markedItem 1 2 6 0 4 ++ markedItem 2 5 9 0 8 ++ markedItem 1 6 3 0 1) ∷ [])) ≡ after 2 (0 ∷ 0 ∷ []) 2 mendedTwo)
     × (monthOf 2 (calls key (load (6 ∷ 7 ∷ 8 ∷ 9 ∷ 3 ∷ []) ∷ update 2 (6 ∷ []) (0 ∷ []) (4 ∷ []) ∷ delete 5 (9 ∷ []) (0 ∷ []) ∷ update 6 (3 ∷ []) (0 ∷ []) (1 ∷ []) ∷ []))
     ≡ after 2 (0 ∷ 0 ∷ 0 ∷ 0 ∷ []) 4 mendedTwo)
-unfolding run be le ofBe ofLe put same xors first joined pieces xorBelow recordsFrom cardBytes readCard shapeFits tokenFits blocksFit cardFits headFits headKnown versionFits marksIn live deleted alike marksFit clearBytes
+unfolding run be le ofBe ofLe put same xors first joined pieces xorBelow recordsFrom cardBytes readCard shapeFits tokenFits blocksFit asksFit cardFits cardLength cardSized cardHead headFits headKnown versionFits marksIn live deleted alike marksFit clearBytes
     nonceBytes recordAt rowOf columnOf blockIn columnsOf blockAt indexOf keyW keyZ keyK drawKey hashKey blockHash columnHash drawnRow positionOf rowDigest digest token
     addedFrom loaded itemSize readItem itemsFrom itemsOf kindsFit risingFrom rising batchFits itemMarksFit numbersFit itemBlock batchWork mixed changedDigest workedDigest sealedRecord
-    bodyIn tokenIn firstBad resealedRecord reseal changedCard setUpCode setUpCard setUpTable unusedBad changeCode changeCard changeTable
+    bodyIn tokenIn firstBad resealedRecord reseal changedCard committedCard askedCard setUpCode setUpCard setUpTable unusedBad changeCode changeCard changeTable
 morning = (refl, refl, refl, refl)

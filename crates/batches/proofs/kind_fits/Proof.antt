@@ -1,7 +1,6 @@
 -- The kind is the item's first byte, by kind-read.
 use borrow.Author.Needs.{needs}
 use native.Mathlib.Omega.{arith}
-use Prim.Native.Nat.{ℕ}
 use mathlib.Core.Path.{ap}
 use Rattle.scheme.specs.Ladder.{within}
 use Rattle.batches.proofs.ItemLaws.{item-long, kind-read}

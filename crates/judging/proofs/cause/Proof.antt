@@ -2,7 +2,8 @@
 use Prim.Native.Nat.{ℕ, _*_}
 use native.Mathlib.Omega.{arith}
 use mathlib.Core.Path.{ap, _∙_}
-use Rattle.records.specs.Fields.{cardOf}
+use Rattle.cards.specs.Fields.{cardOf}
+use Rattle.cards.proofs.FaultLaws.{card-read}
 use Rattle.scheme.specs.Judging.{causeNumber}
 use Rattle.judging.proofs.JudgeLaws.{judge-held, cause-kept, cause-done}
 use borrow.Author.Needs.{needs}
@@ -20,7 +21,8 @@ returns c =
 read-card-requires : tie.Need-read-card-requires
 read-card-requires c κs =
     let s = c .before .before .before .before .before in
-    judge-held (s .args .master .now) (s .args .card .now) (c .before .judge-fault .result) (c .before .judge-fault .ensures) (c .if1 .left) .long
+    card-read (s .args .card .now)
+    (judge-held (s .args .master .now) (s .args .card .now) (c .before .judge-fault .result) (c .before .judge-fault .ensures) (c .if1 .left) .fault)
 
 reply-cause-requires : tie.Need-reply-cause-requires
 reply-cause-requires c κs =

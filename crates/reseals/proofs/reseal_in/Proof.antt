@@ -1,5 +1,4 @@
 -- What is left to reseal gives the same table, the records left still open, and each turn takes one, by turn and reseal-more.
-use borrow.Author.Needs.{needs}
 use native.Mathlib.Omega.{arith}
 use mathlib.Core.Path.{_≡_, refl, sym, _∙_}
 use mathlib.Core.List.{List}
@@ -8,7 +7,7 @@ use lib.ListN.{length}
 use Rattle.scheme.specs.Table.{firstBad, reseal}
 use Rattle.scheme.proofs.TableLaws.{reseal-end}
 use Rattle.standard.specs.Standard.{standard}
-use Rattle.records.specs.Fields.{cardOf}
+use Rattle.cards.specs.Fields.{cardOf}
 use Rattle.tokens.specs.Keyed.{Keyed}
 use Rattle.items.specs.Items.{itemsOf}
 use Rattle.reseals.proofs.ResealLaws.{bad-opens, turn, reseal-more}

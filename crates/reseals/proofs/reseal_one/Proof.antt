@@ -5,7 +5,7 @@ use Prim.Native.Nat.{ℕ}
 use mathlib.Core.Path.{ap₂, _∙_}
 use Rattle.scheme.specs.Tokens.{workedDigest}
 use Rattle.standard.specs.Standard.{standard}
-use Rattle.records.specs.Fields.{cardOf}
+use Rattle.cards.specs.Fields.{cardOf}
 use Rattle.tokens.specs.Keyed.{tokenKey}
 use Rattle.items.specs.Items.{itemsOf}
 use Rattle.reseals.proofs.ResealLaws.{one-record}

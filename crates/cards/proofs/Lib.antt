@@ -1,0 +1,2 @@
+pub mod FaultLaws
+mod CardLaws

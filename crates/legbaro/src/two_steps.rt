@@ -1,0 +1,161 @@
+// Changes in two steps, for cards of version 3: an ask, and then a commit or a drop.
+// An ask is lent what its change in one step is lent, and behind the table a second one of its size, which it writes; the table is only read. Until the
+// ask is committed or dropped it is pending, and every other ask, change and draw is refused. Every ask takes a counter of its own, dropped or not.
+ghost use mathlib.Core.Path.{_≡_};
+ghost use Rattle.scheme.specs.Calls.{update, delete, append, load, batch};
+ghost use Rattle.scheme.specs.Asks as S;
+ghost use Rattle.standard.specs.Standard.{standard};
+
+// Ask for an update. Writes the card and the second table. Codes 1, 2, 3, 15, 8, 18, 4, 10, 7.
+#[no_mangle]
+pub extern "C" fn legbaro_ask_update(
+    master: &[u8],
+    card: &mut [u8],
+    table: &[u8],
+    second: &mut [u8],
+    block: u64,
+    old: &[u8],
+    mark: &[u8],
+    new: &[u8],
+) -> u64
+    ensures { λ r. ⌜ r ≡ S.askCode standard (now (master .entry)) (now (card .entry)) (now (table .entry)) (now (second .entry)) (update block (now (old .entry)) (now (mark .entry)) (now (new .entry))) ⌝ }
+    ensures { λ _. ⌜ now (card .exit) ≡ S.askCard standard (now (master .entry)) (now (card .entry)) (now (table .entry)) (now (second .entry)) (update block (now (old .entry)) (now (mark .entry)) (now (new .entry))) ⌝ }
+    ensures { λ _. ⌜ now (second .exit) ≡ S.askSecond standard (now (master .entry)) (now (card .entry)) (now (table .entry)) (now (second .entry)) (update block (now (old .entry)) (now (mark .entry)) (now (new .entry))) ⌝ }
+{
+    asks::ask(
+        master,
+        card,
+        table,
+        second,
+        changes::Kind::Update,
+        block,
+        old,
+        mark,
+        new,
+    )
+}
+
+// Ask for a deletion. Writes the card and the second table. Codes 1, 2, 3, 15, 8, 18, 4, 10, 7.
+#[no_mangle]
+pub extern "C" fn legbaro_ask_delete(
+    master: &[u8],
+    card: &mut [u8],
+    table: &[u8],
+    second: &mut [u8],
+    block: u64,
+    old: &[u8],
+    mark: &[u8],
+) -> u64
+    ensures { λ r. ⌜ r ≡ S.askCode standard (now (master .entry)) (now (card .entry)) (now (table .entry)) (now (second .entry)) (delete block (now (old .entry)) (now (mark .entry))) ⌝ }
+    ensures { λ _. ⌜ now (card .exit) ≡ S.askCard standard (now (master .entry)) (now (card .entry)) (now (table .entry)) (now (second .entry)) (delete block (now (old .entry)) (now (mark .entry))) ⌝ }
+    ensures { λ _. ⌜ now (second .exit) ≡ S.askSecond standard (now (master .entry)) (now (card .entry)) (now (table .entry)) (now (second .entry)) (delete block (now (old .entry)) (now (mark .entry))) ⌝ }
+{
+    asks::ask(
+        master,
+        card,
+        table,
+        second,
+        changes::Kind::Delete,
+        block,
+        old,
+        mark,
+        old,
+    )
+}
+
+// Ask for an append. Writes the card and the second table. Codes 1, 2, 3, 8, 18, 5, 10, 7.
+#[no_mangle]
+pub extern "C" fn legbaro_ask_append(
+    master: &[u8],
+    card: &mut [u8],
+    table: &[u8],
+    second: &mut [u8],
+    new: &[u8],
+) -> u64
+    ensures { λ r. ⌜ r ≡ S.askCode standard (now (master .entry)) (now (card .entry)) (now (table .entry)) (now (second .entry)) (append (now (new .entry))) ⌝ }
+    ensures { λ _. ⌜ now (card .exit) ≡ S.askCard standard (now (master .entry)) (now (card .entry)) (now (table .entry)) (now (second .entry)) (append (now (new .entry))) ⌝ }
+    ensures { λ _. ⌜ now (second .exit) ≡ S.askSecond standard (now (master .entry)) (now (card .entry)) (now (table .entry)) (now (second .entry)) (append (now (new .entry))) ⌝ }
+{
+    asks::ask(
+        master,
+        card,
+        table,
+        second,
+        changes::Kind::Append,
+        0,
+        new,
+        new,
+        new,
+    )
+}
+
+// Ask for a load. Writes the card and the second table. Codes 1, 2, 3, 8, 18, 12, 5, 10, 7.
+#[no_mangle]
+pub extern "C" fn legbaro_ask_load(
+    master: &[u8],
+    card: &mut [u8],
+    table: &[u8],
+    second: &mut [u8],
+    blocks: &[u8],
+) -> u64
+    ensures { λ r. ⌜ r ≡ S.askCode standard (now (master .entry)) (now (card .entry)) (now (table .entry)) (now (second .entry)) (load (now (blocks .entry))) ⌝ }
+    ensures { λ _. ⌜ now (card .exit) ≡ S.askCard standard (now (master .entry)) (now (card .entry)) (now (table .entry)) (now (second .entry)) (load (now (blocks .entry))) ⌝ }
+    ensures { λ _. ⌜ now (second .exit) ≡ S.askSecond standard (now (master .entry)) (now (card .entry)) (now (table .entry)) (now (second .entry)) (load (now (blocks .entry))) ⌝ }
+{
+    asks::ask(
+        master,
+        card,
+        table,
+        second,
+        changes::Kind::Load,
+        0,
+        blocks,
+        blocks,
+        blocks,
+    )
+}
+
+// Ask for a batch. Writes the card and the second table. Codes 1, 2, 3, 8, 18, 14, 15, 4, 10, 7.
+#[no_mangle]
+pub extern "C" fn legbaro_ask_batch(
+    master: &[u8],
+    card: &mut [u8],
+    table: &[u8],
+    second: &mut [u8],
+    items: &[u8],
+) -> u64
+    ensures { λ r. ⌜ r ≡ S.askCode standard (now (master .entry)) (now (card .entry)) (now (table .entry)) (now (second .entry)) (batch (now (items .entry))) ⌝ }
+    ensures { λ _. ⌜ now (card .exit) ≡ S.askCard standard (now (master .entry)) (now (card .entry)) (now (table .entry)) (now (second .entry)) (batch (now (items .entry))) ⌝ }
+    ensures { λ _. ⌜ now (second .exit) ≡ S.askSecond standard (now (master .entry)) (now (card .entry)) (now (table .entry)) (now (second .entry)) (batch (now (items .entry))) ⌝ }
+{
+    asks::ask(
+        master,
+        card,
+        table,
+        second,
+        changes::Kind::Batch,
+        0,
+        items,
+        items,
+        items,
+    )
+}
+
+// Commit: what was asked for stands. The card takes its counter and its number of blocks, and the second table that the ask wrote is the table from then
+// on. Codes 1, 2, 3, 19.
+#[no_mangle]
+pub extern "C" fn legbaro_commit(card: &mut [u8]) -> u64
+    ensures { λ r. ⌜ r ≡ S.settleCode (now (card .entry)) ⌝ }
+    ensures { λ _. ⌜ now (card .exit) ≡ S.commitCard (now (card .entry)) ⌝ }
+{
+    asks::commit(card)
+}
+
+// Drop: what was asked for is given up, and the table stays the standing one. The counter that the ask took is not taken again. Codes 1, 2, 3, 19.
+#[no_mangle]
+pub extern "C" fn legbaro_drop(card: &mut [u8]) -> u64
+    ensures { λ r. ⌜ r ≡ S.settleCode (now (card .entry)) ⌝ }
+    ensures { λ _. ⌜ now (card .exit) ≡ S.dropCard (now (card .entry)) ⌝ }
+{
+    asks::drop(card)
+}

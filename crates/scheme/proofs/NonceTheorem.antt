@@ -1,0 +1,312 @@
+-- #108: "Every ask takes the last issued plus 1, even after a drop, because a nonce may seal only once". Of any list of calls on any card and tables, whatever
+-- masters and bytes are lent. Assumes nothing.
+--   sealed-under   an accepted change seals every unused record under the last issued plus 1 and its own number, and an ask writes what the change would
+--   seals-rise     the counters that accepted changes and asks take rise, from the last issued on the card at the start
+--   seals-once     after an accepted set-up no pair of counter and token number seals twice, the records of the set-up included
+use Prim.Native.Nat.{ℕ, zero, suc, _+_, _*_, _-_, _≤_, _<_}
+use native.Mathlib.Omega.{arith}
+use native.Mathlib.Decide.{ℕ-discrete}
+use mathlib.Core.Path.{_≡_, refl, sym, ap, _∙_, subst}
+use mathlib.Core.Logic.{_⊎_, inl, inr}
+use mathlib.Core.List.{List, [], _∷_, _++_, append-assoc}
+use mathlib.Core.Bool.{true, or-true}
+use borrow.Author.Tests.{eq-eqb}
+use lib.ListN.{length, length-append}
+use lib.Dec.{eqb}
+use Rattle.octets.specs.Octets.{ofBe, part}
+use Rattle.scheme.specs.Ladder.{ifZero}
+use Rattle.scheme.specs.Lists.{pieces, recordsFrom}
+use Rattle.scheme.specs.Primitives.{Primitives}
+use Rattle.scheme.specs.Marks.{live, alike}
+use Rattle.scheme.specs.Records.{Card, cardBytes, readCard, recordAt}
+use Rattle.scheme.specs.Tokens.{keyK, token}
+use Rattle.scheme.specs.Table.{sealedRecord, resealedRecord}
+use Rattle.scheme.specs.Calls.{setUpCode, setUpCard, setUpTable, Edit, askedCard, committedCard, droppedCard, changedCard, turnedCard}
+use Rattle.scheme.specs.Calls.{changeCode, changeCard, changeTable, Moment, drawCode, drawCard, judgeFault, judgeCard}
+use Rattle.scheme.specs.Asks.{settleCode, commitCard, dropCard, askCode, askCard}
+use Rattle.scheme.specs.Book.{Call, change, ask, commit, drop, draw, judge, Lent, started, bookCard, callCode, callCard, callTable, callAsked}
+use Rattle.scheme.specs.Nonces.{Rising, noncesFrom, unusedNonces, Missing, Once, takes, writes, taken, sealed, counters, seals}
+use Rattle.scheme.proofs.TokenLaws.{length-digest}
+use Rattle.scheme.proofs.RecordLaws.{sealed-ctr, sealed-i, record-long, record-at}
+use Rattle.scheme.proofs.LimitLaws.{card-limits, card-asks}
+use Rattle.scheme.proofs.CardLaws.{InOrder, order-back, committed-order, dropped-order, turned-order}
+use Rattle.scheme.proofs.CallLaws.{set-up-has, change-has, draw-has, judge-has, settle-has}
+use Rattle.scheme.proofs.ResealLaws.{record-changed, card-changed}
+use Rattle.scheme.proofs.BookLaws.{back}
+use Rattle.scheme.proofs.ListTheorem.{start-good, start-card}
+use Rattle.scheme.proofs.AskTheorem.{ask-exactly, one-step, read-asked}
+
+-- one counter with token numbers in their order
+unfoldable pairsFrom : ℕ → ℕ → ℕ → List (ℕ × ℕ)
+pairsFrom k zero i = []
+pairsFrom k (suc m) i = (k, i) ∷ pairsFrom k m (i + 1)
+
+nonces-are : (k m i : ℕ) (table : List ℕ)
+    → ((j : ℕ) → i ≤ j → j < i + m → (ofBe (part 3 8 (recordAt j table)) ≡ k) × (ofBe (part 11 4 (recordAt j table)) ≡ j)) → noncesFrom m i table ≡ pairsFrom k m i
+unfolding noncesFrom pairsFrom
+nonces-are k zero i table h = refl
+nonces-are k (suc m) i table h =
+    let here = h i (omega arith) (omega arith) in
+    rw (here .0, here .1, nonces-are k m (i + 1) table (λ j l u. h j (omega arith) (omega arith)))
+
+-- every counter is above m
+abbrev Above : ℕ → List (ℕ × ℕ) → Type 0
+Above m [] = Unit {0}
+Above m (q ∷ qs) = (m < q .0) × Above m qs
+
+above-less : (l k : ℕ) (qs : List (ℕ × ℕ)) → l < k → Above k qs → Above l qs
+above-less l k [] h a = tt
+above-less l k (q ∷ qs) h a = (omega (arith, a .0), above-less l k qs h (a .1))
+
+above-more : (l k m i : ℕ) (qs : List (ℕ × ℕ)) → l < k → Above k qs → Above l (pairsFrom k m i ++ qs)
+unfolding pairsFrom
+above-more l k zero i qs h a = above-less l k qs h a
+above-more l k (suc m) i qs h a = (h, above-more l k m (i + 1) qs h a)
+
+missing-above : (k i : ℕ) (qs : List (ℕ × ℕ)) → Above k qs → Missing (k, i) qs
+missing-above k i [] a = tt
+missing-above k i (q ∷ qs) a = ((λ e. omega (arith, a .0, ap (λ (p : ℕ × ℕ). p .0) e)), missing-above k i qs (a .1))
+
+missing-more : (k m i j : ℕ) (qs : List (ℕ × ℕ)) → j < i → Above k qs → Missing (k, j) (pairsFrom k m i ++ qs)
+unfolding pairsFrom
+missing-more k zero i j qs h a = missing-above k j qs a
+missing-more k (suc m) i j qs h a = ((λ e. omega (arith, ap (λ (p : ℕ × ℕ). p .1) e)), missing-more k m (i + 1) j qs (omega arith) a)
+
+once-more : (k m i : ℕ) (qs : List (ℕ × ℕ)) → Above k qs → Once qs → Once (pairsFrom k m i ++ qs)
+unfolding pairsFrom
+once-more k zero i qs a o = o
+once-more k (suc m) i qs a o = (missing-more k m (i + 1) i qs (omega arith) a, once-more k m (i + 1) qs a o)
+
+-- a card written or left, neither with another last issued
+same-last : (n : ℕ) (c : Card) (card : List ℕ) → (n ≡ 0 → InOrder c) → c .last ≡ (readCard card) .last → (readCard (ifZero n (cardBytes c) card)) .last ≡ (readCard card) .last
+same-last zero c card o e = ap (λ (x : Card). x .last) (order-back c (o refl)) ∙ e
+same-last (suc n) c card o e = refl
+
+nothing : {A : Type 0} (n : ℕ) → ifZero {A = List A} n [] [] ≡ []
+nothing zero = refl
+nothing (suc n) = refl
+
+module _ (P : Primitives) where
+  -- an accepted change seals unused record i under the last issued plus 1 and i: such is the nonce of a sealed record
+  module _ (master card table : List ℕ) (edit : Edit) (ok : changeCode P master card table edit ≡ 0) where
+    pub sealed-under : (i : ℕ) → (readCard card) .next ≤ i → i ≤ (readCard card) .t
+        → (x : List ℕ) × (recordAt i (changeTable P master card table edit)
+        ≡ sealedRecord P (keyK P master ((readCard card) .id)) ((readCard card) .version) ((readCard card) .last + 1) i x)
+    unfolding resealedRecord
+    sealed-under i h l = (_, record-changed P master card table edit ok i h l)
+
+    change-nonces : unusedNonces (readCard card) (changeTable P master card table edit)
+        ≡ pairsFrom ((readCard card) .last + 1) ((readCard card) .t + 1 - (readCard card) .next) ((readCard card) .next)
+    change-nonces =
+        let c = readCard card in
+        let has = change-has P master card table edit ok in
+        let limits = card-limits c (has .order .fits) in
+        nonces-are (c .last + 1) (c .t + 1 - c .next) (c .next) (changeTable P master card table edit)
+        (λ j u v.
+        let s = sealed-under j u (omega arith) in
+        let key = keyK P master (c .id) in (
+          rw (s .1) (sealed-ctr P key (c .version) (c .last + 1) j (s .0) (omega (arith, has .room))),
+          rw (s .1) (sealed-i P key (c .version) (c .last + 1) j (s .0) (omega (arith, limits .tmost))),
+        ))
+
+    change-last : (readCard (changeCard P master card table edit)) .last ≡ (readCard card) .last + 1
+    change-last = rw (card-changed P master card table edit ok) (unfold changedCard committedCard askedCard in refl)
+
+  -- what a call does to the last counter issued: nothing, or one step, and the records that it seals are under the new one
+  record Still (x : Lent) (card table : List ℕ) : Type 0 where
+    none-taken : taken P x card table ≡ []
+    none-sealed : sealed P x card table ≡ []
+    stays : (readCard (callCard P (x .master) (x .call) card table)) .last ≡ (readCard card) .last
+
+  record Steps (x : Lent) (card table : List ℕ) (k : ℕ) : Type 0 where
+    one-taken : taken P x card table ≡ k ∷ []
+    all-under : sealed P x card table ≡ pairsFrom k ((readCard card) .t + 1 - (readCard card) .next) ((readCard card) .next)
+    above : (readCard card) .last < k
+    rises : (readCard (callCard P (x .master) (x .call) card table)) .last ≡ k
+
+  module _ (master card table : List ℕ) where
+    still : (x : Call) → (readCard (callCard P master x card table)) .last ≡ (readCard card) .last → takes P master x card table ≡ [] → writes P master x card table ≡ []
+        → Still (record { master = master; call = x }) card table
+    unfolding taken sealed
+    still x e f g = let n = callCode P master x card table in record { none-taken = rw f (nothing n); none-sealed = rw g (nothing n); stays = e }
+
+    last-commit : (readCard (commitCard card)) .last ≡ (readCard card) .last
+    unfolding commitCard
+    last-commit =
+        same-last (settleCode card) (committedCard (readCard card)) card
+        (λ e. let h = settle-has card e in committed-order (readCard card) (h .0) (h .1)) (unfold committedCard in refl)
+
+    last-drop : (readCard (dropCard card)) .last ≡ (readCard card) .last
+    unfolding dropCard
+    last-drop = same-last (settleCode card) (droppedCard (readCard card)) card (λ e. dropped-order (readCard card) (settle-has card e .0)) (unfold droppedCard in refl)
+
+    last-draw : (message plan : List ℕ) (now : Moment) → (readCard (drawCard P master card message plan now)) .last ≡ (readCard card) .last
+    unfolding drawCard
+    last-draw message plan now = same-last (drawCode P master card message plan now) (turnedCard c (c .next + 1) (c .next)) card drawn (unfold turnedCard in refl)
+      where
+        c : Card
+        c = readCard card
+
+        drawn : drawCode P master card message plan now ≡ 0 → InOrder (turnedCard c (c .next + 1) (c .next))
+        drawn e =
+            let h = draw-has P master card message plan now e in
+            let o : eqb (c .next) (c .next + 1 - 1) ≡ true = eq-eqb (c .next) (c .next + 1 - 1) (omega arith) in
+            turned-order c (h .order) (c .next + 1) (c .next) (h .idle) (omega arith) (omega (arith, h .left)) (rw o (or-true (eqb (c .next) 0)))
+
+    last-judge : (reply : List ℕ) → (readCard (judgeCard P master card reply)) .last ≡ (readCard card) .last
+    unfolding judgeCard
+    last-judge reply = same-last (judgeFault P master card) (turnedCard c (c .next) 0) card judged (unfold turnedCard in refl)
+      where
+        c : Card
+        c = readCard card
+
+        -- a card with a token open has nothing pending
+        idle : InOrder c → 1 ≤ c .open′ → (n : ℕ) → c .pending ≡ n → c .pending ≡ 0
+        idle o h zero e = e
+        idle o h (suc n) e = absurd (omega (arith, h, card-asks c (o .fits) .busy (omega arith) .3))
+
+        judged : judgeFault P master card ≡ 0 → InOrder (turnedCard c (c .next) 0)
+        judged e =
+            let h = judge-has P master card e in
+            let limits = card-limits c (h .order .fits) in
+            turned-order c (h .order) (c .next) 0 (idle (h .order) (h .some-open) (c .pending) refl) (limits .next1) (limits .nextmost) refl
+
+    -- an accepted change, and an accepted ask, which writes what the change would
+    change-steps : (edit : Edit) → changeCode P master card table edit ≡ 0
+        → Steps (record { master = master; call = change edit }) card table ((readCard card) .last + 1)
+    unfolding taken sealed
+    change-steps edit ok =
+        let l = change-last master card table edit ok in
+        record { one-taken = rw (ok, l); all-under = rw ok (change-nonces master card table edit ok); above = omega arith; rises = l }
+
+    ask-steps : (edit : Edit) (second : List ℕ) → askCode P master card table second edit ≡ 0
+        → Steps (record { master = master; call = ask edit second }) card table ((readCard card) .last + 1)
+    unfolding taken sealed
+    ask-steps edit second ok =
+        let h = ask-exactly P master card table second edit .0 ok in
+        let same = one-step P master card table second edit (h .1) (h .2) .table′ (h .0) in
+        let l : (readCard (askCard P master card table second edit)) .last ≡ (readCard card) .last + 1 =
+        rw (read-asked P master card table second edit ok) (unfold askedCard in refl) in
+        record { one-taken = rw (ok, l); all-under = rw (ok, same) (change-nonces master card table edit (h .0)); above = omega arith; rises = l }
+
+    -- a refused one
+    refused-change : (edit : Edit) (n : ℕ) → changeCode P master card table edit ≡ suc n → Still (record { master = master; call = change edit }) card table
+    unfolding taken sealed changeCard
+    refused-change edit n e = record { none-taken = rw e; none-sealed = rw e; stays = rw e }
+
+    refused-ask : (edit : Edit) (second : List ℕ) (n : ℕ) → askCode P master card table second edit ≡ suc n
+        → Still (record { master = master; call = ask edit second }) card table
+    unfolding taken sealed askCard
+    refused-ask edit second n e = record { none-taken = rw e; none-sealed = rw e; stays = rw e }
+
+    either : (x : Call) → Still (record { master = master; call = x }) card table ⊎ Steps (record { master = master; call = x }) card table ((readCard card) .last + 1)
+    either (change edit) = go (changeCode P master card table edit) refl
+      where
+        go : (n : ℕ) → changeCode P master card table edit ≡ n
+            → Still (record { master = master; call = change edit }) card table ⊎ Steps (record { master = master; call = change edit }) card table ((readCard card) .last + 1)
+        go zero e = inr (change-steps edit e)
+        go (suc n) e = inl (refused-change edit n e)
+    either (ask edit second) = go (askCode P master card table second edit) refl
+      where
+        go : (n : ℕ) → askCode P master card table second edit ≡ n
+            → Still (record { master = master; call = ask edit second }) card table
+            ⊎ Steps (record { master = master; call = ask edit second }) card table ((readCard card) .last + 1)
+        go zero e = inr (ask-steps edit second e)
+        go (suc n) e = inl (refused-ask edit second n e)
+    either commit = inl (still commit last-commit refl refl)
+    either drop = inl (still drop last-drop refl refl)
+    either (draw message plan now) = inl (still (draw message plan now) (last-draw message plan now) refl refl)
+    either (judge reply) = inl (still (judge reply) (last-judge reply) refl refl)
+
+  module _ (x : Lent) (card table : List ℕ) where
+    abbrev card′ : List ℕ
+    card′ = callCard P (x .master) (x .call) card table
+
+    more-counters : (ms : List ℕ) → Rising ((readCard card′) .last) ms → Rising ((readCard card) .last) (taken P x card table ++ ms)
+    more-counters ms r = go (either (x .master) card table (x .call))
+      where
+        go : Still x card table ⊎ Steps x card table ((readCard card) .last + 1) → Rising ((readCard card) .last) (taken P x card table ++ ms)
+        go (inl s) = rw (s .none-taken) (subst (λ (n : ℕ). Rising n ms) (s .stays) r)
+        go (inr s) = rw (s .one-taken) (s .above, subst (λ (n : ℕ). Rising n ms) (s .rises) r)
+
+    more-seals : (qs : List (ℕ × ℕ)) → Above ((readCard card′) .last) qs → Once qs → Above ((readCard card) .last) (sealed P x card table ++ qs) × Once (sealed P x card table ++ qs)
+    more-seals qs a o = go (either (x .master) card table (x .call))
+      where
+        c : Card
+        c = readCard card
+
+        go : Still x card table ⊎ Steps x card table (c .last + 1) → Above (c .last) (sealed P x card table ++ qs) × Once (sealed P x card table ++ qs)
+        go (inl s) = rw (s .none-sealed) (subst (λ (n : ℕ). Above n qs) (s .stays) a, o)
+        go (inr s) =
+            let above = subst (λ (n : ℕ). Above n qs) (s .rises) a in
+            rw (s .all-under) (
+              above-more (c .last) (c .last + 1) (c .t + 1 - c .next) (c .next) qs (s .above) above,
+              once-more (c .last + 1) (c .t + 1 - c .next) (c .next) qs above o,
+            )
+
+  -- "Every ask takes the last issued plus 1, even after a drop"
+  pub seals-rise : (xs : List Lent) (card table asked : List ℕ) → Rising ((readCard card) .last) (counters P xs card table asked)
+  unfolding counters
+  seals-rise [] card table asked = tt
+  seals-rise (x ∷ xs) card table asked =
+      more-counters x card table _
+      (seals-rise xs (card′ x card table) (callTable P (x .master) (x .call) card table asked) (callAsked P (x .master) (x .call) card table asked))
+
+  seals-above : (xs : List Lent) (card table asked : List ℕ) → Above ((readCard card) .last) (seals P xs card table asked) × Once (seals P xs card table asked)
+  unfolding seals
+  seals-above [] card table asked = (tt, tt)
+  seals-above (x ∷ xs) card table asked =
+      let ih = seals-above xs (card′ x card table) (callTable P (x .master) (x .call) card table asked) (callAsked P (x .master) (x .call) card table asked) in
+      more-seals x card table _ (ih .0) (ih .1)
+
+  -- a record among records one after the other
+  records-at : (f : ℕ → List ℕ) → ((i : ℕ) → length (f i) ≡ 63) → (m i : ℕ) (p : List ℕ) → 1 ≤ i → length p ≡ (i - 1) * 63
+      → (j : ℕ) → i ≤ j → j < i + m → recordAt j (p ++ recordsFrom f m i) ≡ f j
+  unfolding recordsFrom
+  records-at f long zero i p l h j u v = absurd (omega arith)
+  records-at f long (suc m) i p l h j u v =
+      go (ℕ-discrete i j) (records-at f long m (i + 1) (p ++ f i) (omega arith) (omega (arith, length-append p (f i), long i)) j)
+    where
+      rest : List ℕ
+      rest = recordsFrom f m (i + 1)
+
+      go : Dec (i ≡ j) → (i + 1 ≤ j → j < i + 1 + m → recordAt j ((p ++ f i) ++ rest) ≡ f j) → recordAt j (p ++ (f i ++ rest)) ≡ f j
+      go (yes e) later = ap (λ (n : ℕ). recordAt n (p ++ (f i ++ rest))) (sym e) ∙ record-at i p (f i) rest h (long i) ∙ ap f e
+      go (no n) later = ap (recordAt j) (sym (append-assoc p (f i) rest)) ∙ later (omega arith) (omega arith)
+
+  module _ (master id : List ℕ) (v B d r t n : ℕ) (blocks card table : List ℕ) (ok : setUpCode P master id v B d r t n blocks card table ≡ 0) where
+    -- set-up seals at counter 0
+    start-nonces : noncesFrom t 1 (setUpTable P master id v B d r t n blocks card table) ≡ pairsFrom 0 t 1
+    unfolding setUpTable token
+    start-nonces = rw ok (nonces-are 0 t 1 (recordsFrom f t 1) own)
+      where
+        f : ℕ → List ℕ
+        f i = sealedRecord P (keyK P master id) v 0 i (token P master id d r i (alike (live v) (pieces B n blocks)))
+
+        long : (i : ℕ) → length (f i) ≡ 63
+        long i = record-long P (keyK P master id) v 0 i _ (length-digest P _ _ _ _ _)
+
+        own : (j : ℕ) → 1 ≤ j → j < 1 + t → (ofBe (part 3 8 (recordAt j (recordsFrom f t 1))) ≡ 0) × (ofBe (part 11 4 (recordAt j (recordsFrom f t 1))) ≡ j)
+        own j l u =
+            let e = records-at f long t 1 [] (omega arith) refl j l u in
+            let has = set-up-has P master id v B d r t n blocks card table ok in (
+              rw e (sealed-ctr P (keyK P master id) v 0 j _ (omega arith)),
+              rw e (sealed-i P (keyK P master id) v 0 j _ (omega (arith, has .tmost))),
+            )
+
+    start-last : (readCard (setUpCard P master id v B d r t n blocks card table)) .last ≡ 0
+    start-last =
+        let b = started master id v B d r t n blocks in
+        ap (λ (c : Card). c .last)
+        (ap readCard (start-card P master id v B d r t n blocks card table ok) ∙ back P b (start-good P master id v B d r t n blocks card table ok))
+        ∙ (unfold bookCard started in refl)
+
+    -- "a nonce may seal only once"
+    pub seals-once : (calls : List Lent) (asked : List ℕ)
+        → Once (noncesFrom t 1 (setUpTable P master id v B d r t n blocks card table)
+        ++ seals P calls (setUpCard P master id v B d r t n blocks card table) (setUpTable P master id v B d r t n blocks card table) asked)
+    seals-once calls asked =
+        let card′ = setUpCard P master id v B d r t n blocks card table in
+        let table′ = setUpTable P master id v B d r t n blocks card table in
+        let p = seals-above calls card′ table′ asked in
+        rw start-nonces (once-more 0 t 1 (seals P calls card′ table′ asked) (subst (λ (m : ℕ). Above m (seals P calls card′ table′ asked)) start-last (p .0)) (p .1))

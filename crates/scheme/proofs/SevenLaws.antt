@@ -1,0 +1,98 @@
+-- "7 never comes up": no call on the card and table of a book gives code 7. Assumes nothing.
+--   fine   the code of a call is not 7
+use Prim.Native.Nat.{ℕ, zero, suc}
+use native.Mathlib.Omega.{arith}
+use native.Mathlib.Decide.{ℕ-discrete}
+use mathlib.Core.Path.{_≡_, refl, sym, ap, _∙_, subst}
+use mathlib.Core.Logic.{_≢_}
+use mathlib.Core.List.{List, [], _++_}
+use mathlib.Core.Bool.{Bool, true, false, cond}
+use borrow.Author.Tests.{ne-eqb}
+use lib.ListN.{length}
+use lib.Dec.{eqb}
+use Rattle.scheme.specs.Ladder.{first, ifZero}
+use Rattle.scheme.specs.Primitives.{Primitives}
+use Rattle.scheme.specs.Records.{Card, cardBytes, readCard}
+use Rattle.scheme.specs.Judging.{causeNumber, cause, verdictOf, verdict}
+use Rattle.scheme.specs.Calls.{Edit, unusedBad, changeChecks, changeCode, Moment, drawEarly, drawLate, drawCode, judgeChecks, judgeFault, judgeCode}
+use Rattle.scheme.specs.Asks.{askChecks, askCode, settleChecks, settleCode}
+use Rattle.scheme.specs.Book.{Call, change, ask, commit, drop, draw, judge, Lent, Book, bookCard, callCode, bookTable}
+use Rattle.scheme.proofs.LadderLaws.{Fine, fine-pass, fine-part, fine-end}
+use Rattle.scheme.proofs.CallLaws.{late-plain}
+use Rattle.scheme.proofs.BookLaws.{Good, back, sound}
+
+module _ (P : Primitives) (b : Book) (g : Good P b) where
+  -- a change lent the key finds every unused record sound
+  none-bad : unusedBad P (b .key) (readCard (cardBytes (bookCard b))) (bookTable P b) ≡ 0
+  none-bad = ap (λ (c : Card). unusedBad P (b .key) c (bookTable P b)) (back P b g) ∙ sound P b g
+
+  fine-key : (edit : Edit) → Fine (changeCode P (b .key) (cardBytes (bookCard b)) (bookTable P b) edit)
+  unfolding changeCode
+  fine-key edit =
+      rw none-bad
+      (fine-part (changeChecks P (b .key) (cardBytes (bookCard b)) (bookTable P b) edit) _ (late-plain (readCard (cardBytes (bookCard b))) (bookTable P b) edit)
+      (fine-pass _ _ refl fine-end))
+
+  fine-key-ask : (edit : Edit) (second : List ℕ) → Fine (askCode P (b .key) (cardBytes (bookCard b)) (bookTable P b) second edit)
+  unfolding askCode
+  fine-key-ask edit second =
+      rw none-bad
+      (fine-part (askChecks P (b .key) (cardBytes (bookCard b)) (bookTable P b) second edit) _ (late-plain (readCard (cardBytes (bookCard b))) (bookTable P b) edit)
+      (fine-pass _ _ refl fine-end))
+
+  -- one lent a master of another length gives 1
+  module _ (master : List ℕ) where
+    fine-other : (edit : Edit) → length master ≢ 32 → Fine (changeCode P master (cardBytes (bookCard b)) (bookTable P b) edit)
+    unfolding changeCode first
+    fine-other edit h = rw (ne-eqb (length master) 32 h) (omega arith)
+
+    fine-other-ask : (edit : Edit) (second : List ℕ) → length master ≢ 32 → Fine (askCode P master (cardBytes (bookCard b)) (bookTable P b) second edit)
+    unfolding askCode first
+    fine-other-ask edit second h = rw (ne-eqb (length master) 32 h) (omega arith)
+
+    -- either way
+    by-length : (f : List ℕ → ℕ) → (length master ≡ 32 → master ≡ b .key) → Fine (f (b .key)) → (length master ≢ 32 → Fine (f master)) → Fine (f master)
+    by-length f k own other = go (ℕ-discrete (length master) 32)
+      where
+        go : Dec (length master ≡ 32) → Fine (f master)
+        go (yes l) = subst (λ (y : List ℕ). Fine (f y)) (sym (k l)) own
+        go (no n) = other n
+
+  fine-settle : Fine (settleCode (cardBytes (bookCard b)))
+  unfolding settleCode
+  fine-settle = fine-part (settleChecks (cardBytes (bookCard b))) [] refl fine-end
+
+  fine-draw : (master message plan : List ℕ) (now : Moment) → Fine (drawCode P master (cardBytes (bookCard b)) message plan now)
+  unfolding drawCode
+  fine-draw master message plan now =
+      let card = cardBytes (bookCard b) in
+      fine-part (drawEarly P master card message plan now ++ drawLate P (readCard card) plan now) [] refl fine-end
+
+  fine-fault : (master : List ℕ) → Fine (judgeFault P master (cardBytes (bookCard b)))
+  unfolding judgeFault
+  fine-fault master = fine-part (judgeChecks P master (cardBytes (bookCard b))) [] refl fine-end
+
+  fine-judge : (master reply : List ℕ) → Fine (judgeCode P master (cardBytes (bookCard b)) reply)
+  unfolding judgeCode verdict verdictOf
+  fine-judge master reply = go (judgeFault P master (cardBytes (bookCard b))) (fine-fault master)
+    where
+      two : (t : Bool) → Fine (cond t 0 11)
+      two true = omega arith
+      two false = omega arith
+
+      go : (n : ℕ) → Fine n → Fine (ifZero n (verdict P master (readCard (cardBytes (bookCard b))) reply) n)
+      go zero f = two (eqb (causeNumber (cause P master (readCard (cardBytes (bookCard b))) reply)) 0)
+      go (suc n) f = f
+
+  pub fine : (x : Lent) → (length (x .master) ≡ 32 → x .master ≡ b .key) → Fine (callCode P (x .master) (x .call) (cardBytes (bookCard b)) (bookTable P b))
+  fine x k = go (x .call)
+    where
+      go : (y : Call) → Fine (callCode P (x .master) y (cardBytes (bookCard b)) (bookTable P b))
+      go (change edit) =
+          by-length (x .master) (λ m. changeCode P m (cardBytes (bookCard b)) (bookTable P b) edit) k (fine-key edit) (fine-other (x .master) edit)
+      go (ask edit second) =
+          by-length (x .master) (λ m. askCode P m (cardBytes (bookCard b)) (bookTable P b) second edit) k (fine-key-ask edit second) (fine-other-ask (x .master) edit second)
+      go commit = fine-settle
+      go drop = fine-settle
+      go (draw message plan now) = fine-draw (x .master) message plan now
+      go (judge reply) = fine-judge (x .master) reply

@@ -1,0 +1,76 @@
+-- Paper 02, #108: what calls of a list seal, read from what they write. Assumes nothing.
+--   taken, counters             the counter that a call takes; those that a list takes, in order
+--   noncesFrom, sealed, seals   counter and token number of records; of those that a call seals; of those that a list seals
+--   Rising, Once                numbers that rise; pairs of which none occurs twice
+use Prim.Native.Nat.{ℕ, zero, suc, _+_, _-_, _<_}
+use mathlib.Core.List.{List, [], _∷_, _++_}
+use mathlib.Core.Logic.{_≢_}
+use Rattle.octets.specs.Octets.{ofBe, part}
+use Rattle.scheme.specs.Ladder.{ifZero}
+use Rattle.scheme.specs.Primitives.{Primitives}
+use Rattle.scheme.specs.Records.{Card, readCard, recordAt}
+use Rattle.scheme.specs.Calls.{changeCard, changeTable}
+use Rattle.scheme.specs.Asks.{askCard, askSecond}
+use Rattle.scheme.specs.Book.{Call, change, ask, commit, drop, draw, judge, Lent, callCode, callCard, callTable, callAsked}
+
+-- above m, each above the one before
+abbrev pub Rising : ℕ → List ℕ → Type 0
+Rising m [] = Unit {0}
+Rising m (n ∷ ns) = (m < n) × Rising n ns
+
+-- the counter and the token number that m records from i on bear in clear
+unfoldable pub noncesFrom : ℕ → ℕ → List ℕ → List (ℕ × ℕ)
+noncesFrom zero i table = []
+noncesFrom (suc m) i table = (ofBe (part 3 8 (recordAt i table)), ofBe (part 11 4 (recordAt i table))) ∷ noncesFrom m (i + 1) table
+
+-- those of the unused records
+abbrev pub unusedNonces : Card → List ℕ → List (ℕ × ℕ)
+unusedNonces c table = noncesFrom (c .t + 1 - c .next) (c .next) table
+
+-- no pair occurs twice
+abbrev pub Missing : ℕ × ℕ → List (ℕ × ℕ) → Type 0
+Missing p [] = Unit {0}
+Missing p (q ∷ qs) = (p ≢ q) × Missing p qs
+
+abbrev pub Once : List (ℕ × ℕ) → Type 0
+Once [] = Unit {0}
+Once (p ∷ ps) = Missing p ps × Once ps
+
+module _ (P : Primitives) where
+  -- a change, in one step or asked, takes a counter: the last issued on the card that it leaves; no other call of a list does
+  abbrev pub takes : List ℕ → Call → List ℕ → List ℕ → List ℕ
+  takes master (change e) card table = (readCard (changeCard P master card table e)) .last ∷ []
+  takes master (ask e second) card table = (readCard (askCard P master card table second e)) .last ∷ []
+  takes master commit card table = []
+  takes master drop card table = []
+  takes master (draw message plan now) card table = []
+  takes master (judge reply) card table = []
+
+  -- and seals the unused records of the table that it writes
+  abbrev pub writes : List ℕ → Call → List ℕ → List ℕ → List (ℕ × ℕ)
+  writes master (change e) card table = unusedNonces (readCard card) (changeTable P master card table e)
+  writes master (ask e second) card table = unusedNonces (readCard card) (askSecond P master card table second e)
+  writes master commit card table = []
+  writes master drop card table = []
+  writes master (draw message plan now) card table = []
+  writes master (judge reply) card table = []
+
+  -- where it is accepted
+  unfoldable pub taken : Lent → List ℕ → List ℕ → List ℕ
+  taken x card table = ifZero (callCode P (x .master) (x .call) card table) (takes (x .master) (x .call) card table) []
+
+  unfoldable pub sealed : Lent → List ℕ → List ℕ → List (ℕ × ℕ)
+  sealed x card table = ifZero (callCode P (x .master) (x .call) card table) (writes (x .master) (x .call) card table) []
+
+  -- of calls one after the other, each on the card and the tables that the one before left
+  unfoldable pub counters : List Lent → List ℕ → List ℕ → List ℕ → List ℕ
+  counters [] card table asked = []
+  counters (x ∷ xs) card table asked =
+      taken x card table
+      ++ counters xs (callCard P (x .master) (x .call) card table) (callTable P (x .master) (x .call) card table asked) (callAsked P (x .master) (x .call) card table asked)
+
+  unfoldable pub seals : List Lent → List ℕ → List ℕ → List ℕ → List (ℕ × ℕ)
+  seals [] card table asked = []
+  seals (x ∷ xs) card table asked =
+      sealed x card table
+      ++ seals xs (callCard P (x .master) (x .call) card table) (callTable P (x .master) (x .call) card table asked) (callAsked P (x .master) (x .call) card table asked)
