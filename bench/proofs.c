@@ -32,6 +32,7 @@ struct call proof_call(uint64_t version, uint64_t B, uint64_t d, uint64_t r, uin
     memset(proof.lent[MARKS].bytes, LEGBARO_LIVE, proof.lent[MARKS].length);
     proof.lent[TABLE] = buffer_copy(&file.table);
     proof.lent[REPLY] = buffer_blank(LEGBARO_REPLY_BYTES);
+    proof.lent[TOTALS] = buffer_blank(LEGBARO_TOTALS_BYTES);
     call_free(&draw);
     file_end(&file);
     return proof;

@@ -134,9 +134,10 @@ void make_folders(const char *name)
 
 void remove_folders(const char *name)
 {
-    static const char *const names[] = {"owner/master", "owner/card",         "owner/table",      "owner/plan",        "owner",
-                                        "host/blocks",  "host/blocks-before", "host/table",       "host/table-before", "host/message",
-                                        "host/reply",   "host/reply-whole",   "host/marks",       "host"};
+    static const char *const names[] = {"owner/master", "owner/card",         "owner/table",  "owner/plan",        "owner/totals",
+                                        "owner",        "host/blocks",        "host/table",   "host/table-before", "host/message",
+                                        "host/reply",   "host/reply-whole",   "host/marks",   "host/totals",       "host/blocks-before",
+                                        "host"};
     for (size_t i = 0; i < sizeof names / sizeof *names; i++)
         remove(names[i]);
     if (chdir("..") != 0 || rmdir(name) != 0)

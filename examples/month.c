@@ -50,6 +50,10 @@ static void rest_of_the_month(void)
     tell_card();
     tell_files("host");
     puts("  The table was fetched, sealed again and sent back once.");
+    tell_work("owner");
+    printf("  That is a walk back for each of %d blocks and each of %d tokens, and a hash where the token draws the block's row.\n", HELD_BACK,
+           TOKENS);
+    puts("  The owner keeps these numbers, since they tell how many tokens cover the load.");
     free(held_back.at);
 }
 
@@ -58,7 +62,10 @@ static void audits(void)
 {
     puts("\nAUDITS OF THE NEW CENTRE'S HOST");
     draw();
-    prove_and_judge(LEGBARO_OK);
+    prove();
+    tell_work("host");
+    puts("  By these the host may charge: a walk for each row drawn, and a hash for each block in these rows.");
+    judge(LEGBARO_OK);
     puts("  The host loses what the load brought and puts zero bytes there.");
     resize_file("host/blocks", (size_t)A_WEEK * BAYS);
     resize_file("host/blocks", (size_t)ROWS * BAYS);

@@ -1,4 +1,4 @@
-/* See parties.h. */
+/* See parties.h: set-up and changes. */
 #include "parties.h"
 
 #include <stdlib.h>
@@ -10,14 +10,25 @@
 /* An example key, for this program only. A real one is random, secret, and set up once for each file id. */
 static const char example_master[] = "Example key: for this demo only!";
 
-uint64_t in_card(size_t at, unsigned width)
+/* A big-endian number in a file. */
+static uint64_t number_in(const char *name, size_t at, unsigned width)
 {
-    struct bytes card = read_file("owner/card");
+    struct bytes file = read_file(name);
     uint64_t number = 0;
     for (unsigned i = 0; i < width; i++)
-        number = number << 8 | card.at[at + i];
-    free(card.at);
+        number = number << 8 | file.at[at + i];
+    free(file.at);
     return number;
+}
+
+uint64_t in_card(size_t at, unsigned width)
+{
+    return number_in("owner/card", at, width);
+}
+
+uint64_t in_totals(const char *party, size_t at)
+{
+    return number_in(strcmp(party, "owner") ? "host/totals" : "owner/totals", at, 8);
 }
 
 /* ---- The host ---- */
@@ -49,30 +60,9 @@ static void host_adds(struct bytes blocks, size_t block_bytes)
     free(live.at);
 }
 
-/* The marks of all blocks; none in a file of version 1. */
-static struct bytes host_marks(void)
-{
-    return is_there("host/marks") ? read_file("host/marks") : room(0);
-}
-
-uint64_t host_proves(void)
-{
-    struct bytes message = read_file("host/message"), blocks = read_file("host/blocks"), table = read_file("host/table");
-    struct bytes marks = host_marks(), reply = room(LEGBARO_REPLY_BYTES);
-    uint64_t result = legbaro_prove(LENT(message), LENT(blocks), LENT(marks), LENT(table), LENT(reply));
-    write_file("host/reply", LENT(reply));
-    free(message.at);
-    free(blocks.at);
-    free(marks.at);
-    free(table.at);
-    free(reply.at);
-    return result;
-}
-
 /* ---- The owner: set-up ---- */
 
-/* A card is on the disk before what was sealed with it leaves the house: an older one would seal under the same nonces again. */
-static void store_card(struct bytes card)
+void store_card(struct bytes card)
 {
     store_file("owner", "card", LENT(card));
 }
@@ -94,12 +84,14 @@ uint64_t owner_sets_up(const struct plan *plan)
 {
     struct bytes master = read_file("owner/master"), blocks = read_file("owner/blocks");
     struct bytes card = room(plan->version == LEGBARO_TWO_STEPS ? LEGBARO_TWO_STEP_CARD_BYTES : LEGBARO_CARD_BYTES);
-    struct bytes table = room(plan->tokens * LEGBARO_RECORD_BYTES);
+    struct bytes table = room(plan->tokens * LEGBARO_RECORD_BYTES), totals = room(LEGBARO_TOTALS_BYTES);
     struct bytes live = room(blocks.length / plan->block_bytes);
     uint64_t result = legbaro_set_up(LENT(master), (const uint8_t *)plan->id, LEGBARO_ID_BYTES, plan->version, plan->block_bytes,
-                                     plan->rows, plan->positions, plan->tokens, live.length, LENT(blocks), LENT(card), LENT(table));
+                                     plan->rows, plan->positions, plan->tokens, live.length, LENT(blocks), LENT(card), LENT(table),
+                                     LENT(totals));
     if (result == LEGBARO_OK) {
         store_card(card);
+        write_file("owner/totals", LENT(totals));
         write_file("host/table", LENT(table));
         write_file("host/blocks", LENT(blocks));
         if (plan->version != LEGBARO_WITHOUT_MARKS)
@@ -110,6 +102,7 @@ uint64_t owner_sets_up(const struct plan *plan)
     free(blocks.at);
     free(card.at);
     free(table.at);
+    free(totals.at);
     return result;
 }
 
@@ -127,39 +120,52 @@ void owner_fetches(uint64_t token)
     free(records.at);
 }
 
-/* What the owner needs for a change: its master, its card and its copy of the table. */
+/* What the owner needs for a change: its master, its card, its copy of the table, and room for totals. */
 struct hand {
-    struct bytes master, card, table;
+    struct bytes master, card, table, totals;
 };
 
 static struct hand owner_takes(void)
 {
     if (!is_there("owner/table"))
         owner_fetches(1);
-    struct hand hand = {read_file("owner/master"), read_file("owner/card"), read_file("owner/table")};
+    struct hand hand = {read_file("owner/master"), read_file("owner/card"), read_file("owner/table"), room(LEGBARO_TOTALS_BYTES)};
     return hand;
 }
 
-/* Keeps the card and sends the table back, where the change was accepted. */
-static void owner_puts_back(struct hand *hand, uint64_t result)
+/* What the owner keeps of an accepted change: the card, and the totals, which tell how many tokens cover what changed. */
+static void owner_keeps(const struct hand *hand)
 {
-    if (result == LEGBARO_OK) {
-        store_card(hand->card);
-        write_file("host/table", LENT(hand->table));
-        wipe("owner/table");
-    }
+    store_card(hand->card);
+    write_file("owner/totals", LENT(hand->totals));
+}
+
+static void free_hand(struct hand *hand)
+{
     free(hand->master.at);
     free(hand->card.at);
     free(hand->table.at);
+    free(hand->totals.at);
+}
+
+/* Sends the table back, where the change was accepted. */
+static void owner_puts_back(struct hand *hand, uint64_t result)
+{
+    if (result == LEGBARO_OK) {
+        owner_keeps(hand);
+        write_file("host/table", LENT(hand->table));
+        wipe("owner/table");
+    }
+    free_hand(hand);
 }
 
 /* Append or load: the same arguments, and the blocks come behind the last one either way. */
-typedef uint64_t adding(const uint8_t *, size_t, uint8_t *, size_t, uint8_t *, size_t, const uint8_t *, size_t);
+typedef uint64_t adding(const uint8_t *, size_t, uint8_t *, size_t, uint8_t *, size_t, const uint8_t *, size_t, uint8_t *, size_t);
 
 static uint64_t owner_adds(adding *call, struct bytes blocks)
 {
     struct hand hand = owner_takes();
-    uint64_t result = call(LENT(hand.master), LENT(hand.card), LENT(hand.table), LENT(blocks));
+    uint64_t result = call(LENT(hand.master), LENT(hand.card), LENT(hand.table), LENT(blocks), LENT(hand.totals));
     if (result == LEGBARO_OK)
         host_adds(blocks, in_card(LEGBARO_CARD_BLOCK_BYTES, 2));
     owner_puts_back(&hand, result);
@@ -187,8 +193,8 @@ uint64_t owner_updates(uint64_t number, struct bytes block)
     struct hand hand = owner_takes();
     struct bytes old = room(block.length), mark = room_for_mark();
     host_sends(number, old, mark);
-    uint64_t result =
-        legbaro_update(LENT(hand.master), LENT(hand.card), LENT(hand.table), number, LENT(old), LENT(mark), LENT(block));
+    uint64_t result = legbaro_update(LENT(hand.master), LENT(hand.card), LENT(hand.table), number, LENT(old), LENT(mark), LENT(block),
+                                     LENT(hand.totals));
     if (result == LEGBARO_OK)
         host_replaces(number, block, LEGBARO_LIVE);
     owner_puts_back(&hand, result);
@@ -203,7 +209,8 @@ uint64_t owner_deletes(uint64_t number)
     size_t block_bytes = in_card(LEGBARO_CARD_BLOCK_BYTES, 2);
     struct bytes old = room(block_bytes), zeros = room(block_bytes), mark = room_for_mark();
     host_sends(number, old, mark);
-    uint64_t result = legbaro_delete(LENT(hand.master), LENT(hand.card), LENT(hand.table), number, LENT(old), LENT(mark));
+    uint64_t result =
+        legbaro_delete(LENT(hand.master), LENT(hand.card), LENT(hand.table), number, LENT(old), LENT(mark), LENT(hand.totals));
     if (result == LEGBARO_OK)
         host_replaces(number, zeros, LEGBARO_DELETED);
     owner_puts_back(&hand, result);
@@ -246,7 +253,7 @@ uint64_t owner_corrects(const struct correction *corrections, size_t count)
     struct bytes items = room(count * item_bytes);
     for (size_t i = 0; i < count; i++)
         write_item(items.at + i * item_bytes, &corrections[i], version, block_bytes);
-    uint64_t result = legbaro_batch(LENT(hand.master), LENT(hand.card), LENT(hand.table), LENT(items));
+    uint64_t result = legbaro_batch(LENT(hand.master), LENT(hand.card), LENT(hand.table), LENT(items), LENT(hand.totals));
     if (result == LEGBARO_OK)
         host_corrects(corrections, count, block_bytes);
     owner_puts_back(&hand, result);
@@ -261,16 +268,15 @@ uint64_t owner_asks_append(struct bytes block)
 {
     struct hand hand = owner_takes();
     struct bytes second = room(hand.table.length);
-    uint64_t result = legbaro_ask_append(LENT(hand.master), LENT(hand.card), LENT(hand.table), LENT(second), LENT(block));
+    uint64_t result =
+        legbaro_ask_append(LENT(hand.master), LENT(hand.card), LENT(hand.table), LENT(second), LENT(block), LENT(hand.totals));
     if (result == LEGBARO_OK) {
-        store_card(hand.card);
+        owner_keeps(&hand);
         write_file("owner/asked-table", LENT(second));
         write_file("owner/asked-block", LENT(block));
         wipe("owner/table");
     }
-    free(hand.master.at);
-    free(hand.card.at);
-    free(hand.table.at);
+    free_hand(&hand);
     free(second.at);
     return result;
 }
@@ -321,53 +327,5 @@ uint64_t owner_drops(void)
         forget_asked();
     }
     free(card.at);
-    return result;
-}
-
-/* ---- The owner: audits ---- */
-
-uint64_t owner_draws(const struct moment *now)
-{
-    struct bytes master = read_file("owner/master"), card = read_file("owner/card"), plan = read_file("owner/plan");
-    struct bytes message = room(LEGBARO_MESSAGE_BYTES);
-    uint64_t result =
-        legbaro_draw(LENT(master), LENT(card), LENT(message), LENT(plan), now->year, now->month, now->day, now->minute);
-    if (result == LEGBARO_OK) {
-        store_card(card);
-        write_file("host/message", LENT(message));
-    }
-    free(master.at);
-    free(card.at);
-    free(plan.at);
-    free(message.at);
-    return result;
-}
-
-uint64_t owner_waits(const struct moment *now)
-{
-    struct bytes plan = read_file("owner/plan");
-    uint64_t result = legbaro_wait(LENT(plan), now->year, now->month, now->day, now->minute);
-    free(plan.at);
-    return result;
-}
-
-uint64_t owner_asks_cause(void)
-{
-    struct bytes master = read_file("owner/master"), card = read_file("owner/card"), reply = read_file("host/reply");
-    uint64_t result = legbaro_cause(LENT(master), LENT(card), LENT(reply));
-    free(master.at);
-    free(card.at);
-    free(reply.at);
-    return result;
-}
-
-uint64_t owner_judges(void)
-{
-    struct bytes master = read_file("owner/master"), card = read_file("owner/card"), reply = read_file("host/reply");
-    uint64_t result = legbaro_judge(LENT(master), LENT(card), LENT(reply));
-    store_card(card);
-    free(master.at);
-    free(card.at);
-    free(reply.at);
     return result;
 }

@@ -25,6 +25,10 @@ void owner_begins(struct bytes blocks);
 /* Makes card and table from these blocks, and sends table and blocks to the host, and but in version 1 a mark for each block. */
 uint64_t owner_sets_up(const struct plan *plan);
 
+/* Puts the owner's card on the disk. It is there before what was sealed with it leaves the house: an older one would seal under the same
+ * nonces again. */
+void store_card(struct bytes card);
+
 /* Fetches the table's records from a token's on into the owner's copy of the table; the whole table with 1. A change fetches it all where
  * the owner has no copy. The copy goes back to the host where the change was accepted, and stays for another try where it was not. */
 void owner_fetches(uint64_t token);
@@ -67,5 +71,9 @@ uint64_t host_proves(void);
 
 /* A number of the owner's card, at its offset of LEGBARO_CARD_.., with so many bytes. */
 uint64_t in_card(size_t at, unsigned width);
+
+/* A number of the totals, at its offset of LEGBARO_TOTALS_..: the owner's of the set-up or change accepted last, the host's of its last
+ * proof. The owner's are sent nowhere. */
+uint64_t in_totals(const char *party, size_t at);
 
 #endif

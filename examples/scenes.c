@@ -72,6 +72,12 @@ void tell_card(void)
            (unsigned long)in_card(LEGBARO_CARD_NEXT, 4), (unsigned long)in_card(LEGBARO_CARD_TOKENS, 4));
 }
 
+void tell_work(const char *party)
+{
+    printf("  the %s's totals say: %lu turns of the permutation, %lu hashes of blocks\n", party,
+           (unsigned long)in_totals(party, LEGBARO_TOTALS_TURNS), (unsigned long)in_totals(party, LEGBARO_TOTALS_HASHES));
+}
+
 void draw_at(struct moment now, uint64_t code)
 {
     tell("the owner draws a token and sends the message:", owner_draws(&now), code);

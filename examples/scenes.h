@@ -32,6 +32,9 @@ int surprises(void);
 void tell_files(const char *party);
 void tell_card(void);
 
+/* Says what the owner's last accepted change, or the host's last proof, took. */
+void tell_work(const char *party);
+
 /* The first step of an audit, in closing hours or at a time with the code that is expected; and the other two with the verdict that is
  * expected, together or each alone, or for a reply that is rejected with its cause. */
 void draw(void);

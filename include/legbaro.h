@@ -50,6 +50,22 @@
  * Gregorian date from 1 January 2000 to 31 December 2099 and a minute from 0 to 1,439: what the owner's clock says, in the time that the
  * plan is meant in. The library has no clock, and takes the time as it is told.
  *
+ * TOTALS. Hosts charge by work. Set-up, the proof, and every change, asked or in one step, write how much of it there was to totals, two
+ * numbers:
+ *   turns      how often the eight rounds of the permutation were applied. A walk, from a position to the row that it draws or from a row
+ *              back to its position, takes one turn or more
+ *   hashes     how many blocks were hashed, of B bytes each
+ * Set-up walks from every position of every token, a proof from every position of its one, and both hash every block in the rows drawn. A
+ * change walks back once for each of its blocks and each unused token, whether the token draws the block's row or not. Where it does, the
+ * old block and the new one are hashed, whether they differ or not; of an added block the new one alone. Not counted are hashes that make
+ * keys (HMAC), sealing, and what the library reckons ahead to be quicker, such as a table of the round function. So the numbers depend on
+ * the arguments alone, and not on the processor or on the way by which the library comes to a token.
+ * What may be quoted beforehand, R being the least power of 4 that is d or more, and at least 4: a walk takes at most R - d + 1 turns, and
+ * the r walks of one token together at most R - d + r. With q = n div d and s = n mod d a proof takes r * q hashes and some more: at least
+ * r - (d - s), or 0 where that is below 0, and at most the lesser of r and s.
+ * The totals of a change tell how many unused tokens cover its blocks, which no host may learn before these are drawn. The owner keeps
+ * them, and those of set-up, and sends none of them. A proof's are the host's own.
+ *
  * RESULT. Every call returns code + 256 * number. The code is 0 for an accepted call. The number is 0 but in two cases: with
  * LEGBARO_BAD_RECORD it is a token, and from legbaro_positions, legbaro_wait and legbaro_cause, with code 0, it is what was asked for.
  * A call that is turned away (any code but 0 and LEGBARO_REJECTED) leaves every buffer as it was. The codes of each call stand
@@ -92,6 +108,7 @@
 #define LEGBARO_MESSAGE_BYTES 91
 #define LEGBARO_REPLY_BYTES 110
 #define LEGBARO_PLAN_BYTES 28
+#define LEGBARO_TOTALS_BYTES 16
 
 /* Limits. The least of every number is 1, but the counter starts at 0. */
 #define LEGBARO_MOST_BLOCK_BYTES 4096 /* B */
@@ -158,6 +175,10 @@
 #define LEGBARO_CARD_LAST_ISSUED 43     /* 8 bytes: the last counter that a change or an ask took */
 #define LEGBARO_CARD_PENDING_COUNTER 51 /* 8 bytes: the counter of the change that is pending, 0 for none */
 #define LEGBARO_CARD_PENDING_BLOCKS 59  /* 4 bytes: the number of blocks after it, 0 for none */
+
+/* Totals: big-endian numbers, each at its offset. */
+#define LEGBARO_TOTALS_TURNS 0  /* 8 bytes */
+#define LEGBARO_TOTALS_HASHES 8 /* 8 bytes: of blocks */
 
 /* An item of a batch, for a file's version and blocks of B bytes: what it has at which offset, and how many bytes it is. */
 #define LEGBARO_ITEM_KIND 0                                               /* 1 byte: LEGBARO_ITEM_UPDATE or LEGBARO_ITEM_DELETE */

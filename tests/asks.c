@@ -51,6 +51,7 @@ static void both_ways(const struct file *file, struct call change)
     struct call commit = settled(COMMIT, &ask.lent[CARD]), drop = settled(DROP, &ask.lent[CARD]);
     expect(buffer_same(&commit.lent[CARD], &change.lent[CARD]), "the card of the change in one step");
     expect(buffer_same(&ask.lent[SECOND], &change.lent[TABLE]), "the table of the change in one step");
+    expect(buffer_same(&ask.lent[TOTALS], &change.lent[TOTALS]), "the totals of the change in one step");
     expect(buffer_same(&ask.lent[TABLE], &file->table), "the standing table as it was");
     expect_one_more_issued(file, &drop.lent[CARD]);
     call_free(&change);

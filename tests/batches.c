@@ -199,6 +199,7 @@ static void batch_and_singles(uint64_t B, uint64_t d, uint64_t spent, size_t ite
     }
     run_batch(&together, batch);
     expect(together.book.numbers.ctr == 1 && singly.book.numbers.ctr == items, "one step of the counter");
+    expect(totals_same(together.work, singly.work), "the totals of all single changes");
     expect_alike(&together, &singly);
     file_expect_book(&together);
     file_expect_book(&singly);
@@ -223,6 +224,7 @@ static void one_item(const struct file *file)
     call_expect(&alone, LEGBARO_OK, "accepted");
     expect(buffer_same(&batch.lent[CARD], &alone.lent[CARD]), "the card of the single change");
     expect(buffer_same(&batch.lent[TABLE], &alone.lent[TABLE]), "the table of the single change");
+    expect(buffer_same(&batch.lent[TOTALS], &alone.lent[TOTALS]), "the totals of the single change");
     call_free(&batch);
     call_free(&alone);
 }

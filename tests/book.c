@@ -119,7 +119,8 @@ static uint64_t turned_away(const struct book *book, const struct call *call)
     struct edit edit;
     struct when when = {call->year, call->month, call->day, call->minute};
     uint8_t card[LEGBARO_TWO_STEP_CARD_BYTES];
-    size_t master_length = call->lent[MASTER].length, size = second_card_bytes(book->numbers.version);
+    size_t master_length = call->lent[MASTER].length, totals_length = call->lent[TOTALS].length;
+    size_t size = second_card_bytes(book->numbers.version);
     book_card(book, card);
     switch (call->kind) {
     case DRAW:
@@ -133,8 +134,8 @@ static uint64_t turned_away(const struct book *book, const struct call *call)
     default:
         edit = edit_of(call);
         if (is_ask(call->kind))
-            return second_ask_fault(&edit, master_length, card, size, table_bytes(book), call->lent[SECOND].length);
-        return second_change_fault(&edit, master_length, card, size, table_bytes(book));
+            return second_ask_fault(&edit, master_length, card, size, table_bytes(book), call->lent[SECOND].length, totals_length);
+        return second_change_fault(&edit, master_length, card, size, table_bytes(book), totals_length);
     }
 }
 

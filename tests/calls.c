@@ -3,40 +3,41 @@
 
 #include "groups.h"
 #include "run.h"
-#include "second.h"
 
 /* The buffers of each kind of call, a bit for each role, and those among them that it writes. */
 #define BIT(role) (1u << (role))
-#define CHANGE (BIT(MASTER) | BIT(CARD) | BIT(TABLE))
+#define CHANGE (BIT(MASTER) | BIT(CARD) | BIT(TABLE) | BIT(TOTALS))
 #define ASK (CHANGE | BIT(SECOND))
+#define CHANGED (BIT(CARD) | BIT(TABLE) | BIT(TOTALS))
+#define ASKED (BIT(CARD) | BIT(SECOND) | BIT(TOTALS))
 
 static const struct {
     const char *name;
     unsigned takes, writes;
 } kinds[KINDS] = {
-    [SET_UP] = {"set-up", CHANGE | BIT(ID) | BIT(BLOCKS), BIT(CARD) | BIT(TABLE)},
-    [UPDATE] = {"update", CHANGE | BIT(OLD) | BIT(MARKS) | BIT(NEW), BIT(CARD) | BIT(TABLE)},
-    [DELETE] = {"delete", CHANGE | BIT(OLD) | BIT(MARKS), BIT(CARD) | BIT(TABLE)},
-    [APPEND] = {"append", CHANGE | BIT(NEW), BIT(CARD) | BIT(TABLE)},
-    [LOAD] = {"load", CHANGE | BIT(BLOCKS), BIT(CARD) | BIT(TABLE)},
-    [BATCH] = {"batch", CHANGE | BIT(ITEMS), BIT(CARD) | BIT(TABLE)},
-    [ASK_UPDATE] = {"ask update", ASK | BIT(OLD) | BIT(MARKS) | BIT(NEW), BIT(CARD) | BIT(SECOND)},
-    [ASK_DELETE] = {"ask delete", ASK | BIT(OLD) | BIT(MARKS), BIT(CARD) | BIT(SECOND)},
-    [ASK_APPEND] = {"ask append", ASK | BIT(NEW), BIT(CARD) | BIT(SECOND)},
-    [ASK_LOAD] = {"ask load", ASK | BIT(BLOCKS), BIT(CARD) | BIT(SECOND)},
-    [ASK_BATCH] = {"ask batch", ASK | BIT(ITEMS), BIT(CARD) | BIT(SECOND)},
+    [SET_UP] = {"set-up", CHANGE | BIT(ID) | BIT(BLOCKS), CHANGED},
+    [UPDATE] = {"update", CHANGE | BIT(OLD) | BIT(MARKS) | BIT(NEW), CHANGED},
+    [DELETE] = {"delete", CHANGE | BIT(OLD) | BIT(MARKS), CHANGED},
+    [APPEND] = {"append", CHANGE | BIT(NEW), CHANGED},
+    [LOAD] = {"load", CHANGE | BIT(BLOCKS), CHANGED},
+    [BATCH] = {"batch", CHANGE | BIT(ITEMS), CHANGED},
+    [ASK_UPDATE] = {"ask update", ASK | BIT(OLD) | BIT(MARKS) | BIT(NEW), ASKED},
+    [ASK_DELETE] = {"ask delete", ASK | BIT(OLD) | BIT(MARKS), ASKED},
+    [ASK_APPEND] = {"ask append", ASK | BIT(NEW), ASKED},
+    [ASK_LOAD] = {"ask load", ASK | BIT(BLOCKS), ASKED},
+    [ASK_BATCH] = {"ask batch", ASK | BIT(ITEMS), ASKED},
     [COMMIT] = {"commit", BIT(CARD), BIT(CARD)},
     [DROP] = {"drop", BIT(CARD), BIT(CARD)},
     [DRAW] = {"draw", BIT(MASTER) | BIT(CARD) | BIT(MESSAGE) | BIT(PLAN), BIT(CARD) | BIT(MESSAGE)},
     [JUDGE] = {"judge", BIT(MASTER) | BIT(CARD) | BIT(REPLY), BIT(CARD)},
     [CAUSE] = {"cause", BIT(MASTER) | BIT(CARD) | BIT(REPLY), 0},
-    [PROVE] = {"prove", BIT(MESSAGE) | BIT(BLOCKS) | BIT(MARKS) | BIT(TABLE) | BIT(REPLY), BIT(REPLY)},
+    [PROVE] = {"prove", BIT(MESSAGE) | BIT(BLOCKS) | BIT(MARKS) | BIT(TABLE) | BIT(REPLY) | BIT(TOTALS), BIT(REPLY) | BIT(TOTALS)},
     [POSITIONS] = {"positions", 0, 0},
     [WAIT] = {"wait", BIT(PLAN), 0},
 };
 
 static const char *const roles[ROLES] = {"master", "id",        "blocks", "card",    "table", "second table", "old block",
-                                         "marks",  "new block", "items",  "message", "plan",  "reply"};
+                                         "marks",  "new block", "items",  "message", "plan",  "reply",        "totals"};
 
 static unsigned long counts[KINDS][LAST_CODE + 1];
 
@@ -134,6 +135,17 @@ uint64_t call_compare_by(uint64_t (*run)(struct call *), struct call *call)
 uint64_t call_compare(struct call *call)
 {
     return call_compare_by(call_library, call);
+}
+
+struct totals call_totals(const struct call *call)
+{
+    const struct buffer *totals = &call->lent[TOTALS];
+    return (struct totals){buffer_number(totals, LEGBARO_TOTALS_TURNS, 8), buffer_number(totals, LEGBARO_TOTALS_HASHES, 8)};
+}
+
+int totals_same(struct totals a, struct totals b)
+{
+    return a.turns == b.turns && a.hashes == b.hashes;
 }
 
 unsigned long call_count(enum kind kind, uint64_t code)

@@ -4,6 +4,7 @@
 
 #include "buffers.h"
 #include "legbaro.h"
+#include "second.h"
 
 /* The five changes, then the same five asked. */
 enum kind {
@@ -32,7 +33,7 @@ enum kind {
 /* The highest code of any call. */
 enum { LAST_CODE = LEGBARO_NONE_PENDING };
 
-enum role { MASTER, ID, BLOCKS, CARD, TABLE, SECOND, OLD, MARKS, NEW, ITEMS, MESSAGE, PLAN, REPLY, ROLES };
+enum role { MASTER, ID, BLOCKS, CARD, TABLE, SECOND, OLD, MARKS, NEW, ITEMS, MESSAGE, PLAN, REPLY, TOTALS, ROLES };
 
 struct call {
     enum kind kind;
@@ -68,6 +69,10 @@ uint64_t call_second(struct call *call);
  * `call_compare_by` runs the call by what it is given in the library's place. */
 uint64_t call_compare(struct call *call);
 uint64_t call_compare_by(uint64_t (*run)(struct call *), struct call *call);
+
+/* The totals that an accepted call left; whether two are the same. */
+struct totals call_totals(const struct call *call);
+int totals_same(struct totals a, struct totals b);
 
 /* How many compared calls of a kind returned a code. */
 unsigned long call_count(enum kind kind, uint64_t code);

@@ -31,6 +31,7 @@ struct call file_set_up_call(uint64_t version, uint64_t B, uint64_t d, uint64_t 
     call.lent[BLOCKS] = any_bytes(n * B);
     call.lent[CARD] = buffer_blank(second_card_bytes(version));
     call.lent[TABLE] = buffer_blank(t * LEGBARO_RECORD_BYTES);
+    call.lent[TOTALS] = any_bytes(LEGBARO_TOTALS_BYTES);
     return call;
 }
 
@@ -43,7 +44,8 @@ struct file file_of(const struct call *set_up)
                         .card = buffer_copy(&call.lent[CARD]),
                         .table = buffer_copy(&call.lent[TABLE]),
                         .asked = buffer_blank(call.lent[TABLE].length),
-                        .message = buffer_blank(LEGBARO_MESSAGE_BYTES)};
+                        .message = buffer_blank(LEGBARO_MESSAGE_BYTES),
+                        .work = call_totals(&call)};
     call_free(&call);
     return file;
 }
@@ -165,6 +167,8 @@ struct call file_call(const struct file *file, enum kind kind)
         lend_hours(&call);
     if (call_takes(kind, REPLY))
         call.lent[REPLY] = kind == JUDGE || kind == CAUSE ? honest_reply(file) : buffer_blank(LEGBARO_REPLY_BYTES);
+    if (call_takes(kind, TOTALS))
+        call.lent[TOTALS] = any_bytes(LEGBARO_TOTALS_BYTES);
     return call;
 }
 
@@ -215,6 +219,8 @@ uint64_t file_run(struct file *file, struct call *call)
     take_over(&file->message, &call->lent[MESSAGE]);
     if (is_ask(call->kind) && number == LEGBARO_OK)
         take_over(&file->asked, &call->lent[SECOND]);
+    if (call_takes(call->kind, TOTALS) && number == LEGBARO_OK)
+        second_add_totals(&file->work, call_totals(call));
     if (call->kind == COMMIT && number == LEGBARO_OK)
         take_over(&file->table, &file->asked);
     call_free(call);

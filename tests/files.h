@@ -10,6 +10,7 @@ struct file {
     struct buffer master, card, table;
     struct buffer asked;   /* the table of the ask accepted last; blank before the first */
     struct buffer message; /* the one drawn last; blank before the first draw */
+    struct totals work;    /* of set-up and every accepted change and ask */
 };
 
 /* Any of the versions. */
@@ -26,7 +27,7 @@ void file_end(struct file *file);
 /* A call on the file with nothing wrong in its arguments: a change, asked or not, has a block number that exists, present bytes and mark,
  * and a random new block, a load a few random blocks, a batch a few items, an ask any bytes where the second table is to be, a draw any plan
  * and any time that it allows, a proof the message drawn last and the current blocks and marks, a judging, or the question for a cause,
- * the reply of such a proof. The state may still turn it away. */
+ * the reply of such a proof; and any bytes where totals are to be. The state may still turn it away. */
 struct call file_call(const struct file *file, enum kind kind);
 
 /* A load of so many random blocks. */

@@ -76,7 +76,7 @@ static void disturb_hours(struct call *call)
 /* Something wrong in what a list may hold: anything lent but card and table, the master's bytes and a block's present bytes and mark. */
 static void disturb(const struct file *file, struct call *call)
 {
-    static const enum role lent[] = {MASTER, SECOND, OLD, MARKS, NEW, BLOCKS, ITEMS, MESSAGE, PLAN, REPLY};
+    static const enum role lent[] = {MASTER, SECOND, OLD, MARKS, NEW, BLOCKS, ITEMS, MESSAGE, PLAN, REPLY, TOTALS};
     enum role role = lent[chance_below(COUNT(lent))];
     if (unasked(call->kind) == BATCH && chance_of(2))
         disturb_item(file, &call->lent[ITEMS]);

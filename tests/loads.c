@@ -100,6 +100,7 @@ static void one_block(const struct file *file)
     call_expect(&load, LEGBARO_OK, "accepted");
     expect(buffer_same(&load.lent[CARD], &append.lent[CARD]), "the card of an append");
     expect(buffer_same(&load.lent[TABLE], &append.lent[TABLE]), "the table of an append");
+    expect(buffer_same(&load.lent[TOTALS], &append.lent[TOTALS]), "the totals of an append");
     call_free(&append);
     call_free(&load);
 }
@@ -139,8 +140,8 @@ static struct buffer drawn_reply(struct file *file)
     return reply;
 }
 
-/* One set-up made twice; the blocks come as one load there and one by one here. Both are audited alike: the record's counter apart, which
- * stands behind the digest with the sealed token, the replies are the same. */
+/* One set-up made twice; the blocks come as one load there and one by one here, with the same turns and hashes. Both are audited alike: the
+ * record's counter apart, which stands behind the digest with the sealed token, the replies are the same. */
 static void load_and_appends(uint64_t B, uint64_t d, uint64_t r, uint64_t n, uint64_t blocks)
 {
     enum { BEFORE_RECORD = LEGBARO_REPLY_BYTES - LEGBARO_RECORD_BYTES };
@@ -150,6 +151,7 @@ static void load_and_appends(uint64_t B, uint64_t d, uint64_t r, uint64_t n, uin
     append_singly(&appending, &load.lent[BLOCKS]);
     expect(file_run(&loading, &load) == LEGBARO_OK, "accepted");
     expect(loading.book.numbers.ctr == 1 && appending.book.numbers.ctr == blocks, "one step of the counter");
+    expect(totals_same(loading.work, appending.work), "the totals of all appends");
     struct buffer one = drawn_reply(&loading), other = drawn_reply(&appending);
     expect(buffer_same(&loading.message, &appending.message), "the same message");
     expect(memcmp(one.bytes, other.bytes, BEFORE_RECORD) == 0, "the same digest");

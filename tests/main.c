@@ -65,6 +65,7 @@ int main(int count, char **words)
     test_marks();
     test_asks();
     test_pending();
+    test_totals();
     test_causes();
     test_plans();
     test_times();

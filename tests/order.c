@@ -60,7 +60,7 @@ static void expect_order(const char *name, const uint8_t *key, uint64_t d, uint6
 {
     size_t seen = 0;
     for (uint64_t j = 1; j <= r; j++) {
-        uint64_t row = second_permuted(key, d, j - 1);
+        uint64_t row = second_permuted(key, d, j - 1).end;
         for (uint64_t column = (n + d - row - 1) / d; column > 0; column--) {
             uint64_t block = (column - 1) * d + row;
             expect(seen < touches && touched[seen] == block, "%s: touch %zu, at position %llu, to be of block %llu", name, seen + 1,

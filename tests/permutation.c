@@ -19,16 +19,20 @@ static void half_widths(void)
                (unsigned long long)marked[i].d);
 }
 
-/* Each number below d comes up once, and backward P undoes it. */
+/* Each number below d comes up once, and backward P undoes it in as many turns. "never above 4^h - d + 1"; "walks from different positions
+ * never cross outside the rows", so that all together take no more turns than there are numbers below 4^h. */
 static void one_to_one(const uint8_t *key, uint64_t d)
 {
-    uint64_t seen = 0;
+    uint64_t seen = 0, turns = 0, numbers = UINT64_C(1) << 2 * second_half_width(d);
     for (uint64_t x = 0; x < d; x++) {
-        uint64_t y = second_permuted(key, d, x);
-        expect(y < d && !(seen >> y & 1), "P one to one for d = %llu", (unsigned long long)d);
-        expect(second_permuted_back(key, d, y) == x, "P undone for d = %llu", (unsigned long long)d);
-        seen |= UINT64_C(1) << y;
+        struct walk walk = second_permuted(key, d, x), back = second_permuted_back(key, d, walk.end);
+        expect(walk.end < d && !(seen >> walk.end & 1), "P one to one for d = %llu", (unsigned long long)d);
+        expect(back.end == x && back.turns == walk.turns, "P undone for d = %llu, in as many turns", (unsigned long long)d);
+        expect(walk.turns >= 1 && walk.turns <= numbers - d + 1, "the turns of a walk for d = %llu", (unsigned long long)d);
+        seen |= UINT64_C(1) << walk.end;
+        turns += walk.turns;
     }
+    expect(turns <= numbers, "the turns of all walks for d = %llu", (unsigned long long)d);
 }
 
 void test_permutation(void)

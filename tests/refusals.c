@@ -183,6 +183,10 @@ static void small_calls(struct file *file)
     buffer_resize(&call.lent[CARD], call.lent[CARD].length - 1);
     call_finish(&call, LEGBARO_WRONG_LENGTH, "card of 42 or 62 bytes");
 
+    call = file_call(file, UPDATE);
+    buffer_resize(&call.lent[TOTALS], LEGBARO_TOTALS_BYTES - 1);
+    call_finish(&call, LEGBARO_WRONG_LENGTH, "totals of 15 bytes");
+
     call = file_call(file, DRAW);
     call.lent[CARD].bytes[LEGBARO_CARD_VERSION] = 0;
     call_finish(&call, LEGBARO_WRONG_HEADER, "card, version 0");

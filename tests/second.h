@@ -5,6 +5,7 @@
  *   second_start, second_end                the contexts of libcrypto that all else here uses
  *   second_set_up .. second_wait            the calls, with the arguments of legbaro.h
  *   struct card, second_read_card, second_write_card, second_card_bytes   the numbers of a card, their bytes, and how many these are
+ *   struct totals, second_add_totals        the work of a call, and its sums
  *   second_fresh_records                    the records of unused tokens, reckoned from the blocks
  *   struct edit                             what a change hands over
  *   struct item, second_item                an item of a batch
@@ -12,7 +13,7 @@
  *   struct when, second_weekday             a date and minute, and the weekday of a date
  *   second_change_fault .. second_judge_fault   the code of a call that is turned away, 0 for none
  *   second_verdict                          0 or 11
- *   second_half_width, second_permuted, second_permuted_back   the permutation P
+ *   struct walk, second_half_width, second_permuted, second_permuted_back   the permutation P
  */
 #ifndef SECOND_H
 #define SECOND_H
@@ -57,6 +58,16 @@ struct when {
     uint64_t year, month, day, minute;
 };
 
+/* "totals of turns and of block hashes" */
+struct totals {
+    uint64_t turns, hashes;
+};
+
+/* Where P leads, and "how many times the eight rounds were applied". */
+struct walk {
+    uint64_t end, turns;
+};
+
 void second_start(void);
 void second_end(void);
 
@@ -66,7 +77,8 @@ uint64_t second_set_up(const uint8_t *master, size_t master_length,
                        uint64_t B, uint64_t d, uint64_t r, uint64_t t, uint64_t n,
                        const uint8_t *blocks, size_t blocks_length,
                        uint8_t *card, size_t card_length,
-                       uint8_t *table, size_t table_length);
+                       uint8_t *table, size_t table_length,
+                       uint8_t *totals, size_t totals_length);
 
 uint64_t second_update(const uint8_t *master, size_t master_length,
                        uint8_t *card, size_t card_length,
@@ -74,29 +86,34 @@ uint64_t second_update(const uint8_t *master, size_t master_length,
                        uint64_t m,
                        const uint8_t *old_block, size_t old_block_length,
                        const uint8_t *mark, size_t mark_length,
-                       const uint8_t *new_block, size_t new_block_length);
+                       const uint8_t *new_block, size_t new_block_length,
+                       uint8_t *totals, size_t totals_length);
 
 uint64_t second_delete(const uint8_t *master, size_t master_length,
                        uint8_t *card, size_t card_length,
                        uint8_t *table, size_t table_length,
                        uint64_t m,
                        const uint8_t *old_block, size_t old_block_length,
-                       const uint8_t *mark, size_t mark_length);
+                       const uint8_t *mark, size_t mark_length,
+                       uint8_t *totals, size_t totals_length);
 
 uint64_t second_append(const uint8_t *master, size_t master_length,
                        uint8_t *card, size_t card_length,
                        uint8_t *table, size_t table_length,
-                       const uint8_t *new_block, size_t new_block_length);
+                       const uint8_t *new_block, size_t new_block_length,
+                       uint8_t *totals, size_t totals_length);
 
 uint64_t second_load(const uint8_t *master, size_t master_length,
                      uint8_t *card, size_t card_length,
                      uint8_t *table, size_t table_length,
-                     const uint8_t *blocks, size_t blocks_length);
+                     const uint8_t *blocks, size_t blocks_length,
+                     uint8_t *totals, size_t totals_length);
 
 uint64_t second_batch(const uint8_t *master, size_t master_length,
                       uint8_t *card, size_t card_length,
                       uint8_t *table, size_t table_length,
-                      const uint8_t *items, size_t items_length);
+                      const uint8_t *items, size_t items_length,
+                      uint8_t *totals, size_t totals_length);
 
 uint64_t second_ask_update(const uint8_t *master, size_t master_length,
                            uint8_t *card, size_t card_length,
@@ -105,7 +122,8 @@ uint64_t second_ask_update(const uint8_t *master, size_t master_length,
                            uint64_t m,
                            const uint8_t *old_block, size_t old_block_length,
                            const uint8_t *mark, size_t mark_length,
-                           const uint8_t *new_block, size_t new_block_length);
+                           const uint8_t *new_block, size_t new_block_length,
+                           uint8_t *totals, size_t totals_length);
 
 uint64_t second_ask_delete(const uint8_t *master, size_t master_length,
                            uint8_t *card, size_t card_length,
@@ -113,25 +131,29 @@ uint64_t second_ask_delete(const uint8_t *master, size_t master_length,
                            uint8_t *second, size_t second_length,
                            uint64_t m,
                            const uint8_t *old_block, size_t old_block_length,
-                           const uint8_t *mark, size_t mark_length);
+                           const uint8_t *mark, size_t mark_length,
+                           uint8_t *totals, size_t totals_length);
 
 uint64_t second_ask_append(const uint8_t *master, size_t master_length,
                            uint8_t *card, size_t card_length,
                            const uint8_t *table, size_t table_length,
                            uint8_t *second, size_t second_length,
-                           const uint8_t *new_block, size_t new_block_length);
+                           const uint8_t *new_block, size_t new_block_length,
+                           uint8_t *totals, size_t totals_length);
 
 uint64_t second_ask_load(const uint8_t *master, size_t master_length,
                          uint8_t *card, size_t card_length,
                          const uint8_t *table, size_t table_length,
                          uint8_t *second, size_t second_length,
-                         const uint8_t *blocks, size_t blocks_length);
+                         const uint8_t *blocks, size_t blocks_length,
+                         uint8_t *totals, size_t totals_length);
 
 uint64_t second_ask_batch(const uint8_t *master, size_t master_length,
                           uint8_t *card, size_t card_length,
                           const uint8_t *table, size_t table_length,
                           uint8_t *second, size_t second_length,
-                          const uint8_t *items, size_t items_length);
+                          const uint8_t *items, size_t items_length,
+                          uint8_t *totals, size_t totals_length);
 
 uint64_t second_commit(uint8_t *card, size_t card_length);
 uint64_t second_drop(uint8_t *card, size_t card_length);
@@ -154,7 +176,8 @@ uint64_t second_prove(const uint8_t *message, size_t message_length,
                       const uint8_t *blocks, size_t blocks_length,
                       const uint8_t *marks, size_t marks_length,
                       const uint8_t *table, size_t table_length,
-                      uint8_t *reply, size_t reply_length);
+                      uint8_t *reply, size_t reply_length,
+                      uint8_t *totals, size_t totals_length);
 
 uint64_t second_positions(uint64_t r, uint64_t planned, uint64_t present);
 
@@ -166,10 +189,13 @@ size_t second_card_bytes(uint64_t version);
 struct card second_read_card(const uint8_t *bytes);
 void second_write_card(uint8_t *bytes, const struct card *c);
 
+/* Adds the work of a part to that of the whole. */
+void second_add_totals(struct totals *whole, struct totals part);
+
 /* Writes records `first` to `last` of a table: each token over the card's n blocks, with their marks but in version 1, sealed at the card's
- * counter. */
-void second_fresh_records(const uint8_t *master, const struct card *c, const uint8_t *blocks, const uint8_t *marks, uint64_t first,
-                          uint64_t last, uint8_t *table);
+ * counter. Answers the work. */
+struct totals second_fresh_records(const uint8_t *master, const struct card *c, const uint8_t *blocks, const uint8_t *marks,
+                                   uint64_t first, uint64_t last, uint8_t *table);
 
 /* Item e, from 0, of a batch for the card's version and block bytes; how many bytes each item has. */
 struct item second_item(const uint8_t *items, const struct card *c, size_t e);
@@ -179,10 +205,10 @@ size_t second_item_bytes(const struct card *c);
 int second_token(const uint8_t *master, const struct card *c, const uint8_t *table, uint64_t i, uint8_t *token);
 
 /* The code of a change in one step and of an ask, code 7 apart, of a commit or drop, of a draw, and of a judging before its verdict. */
-uint64_t second_change_fault(const struct edit *edit, size_t master_length, const uint8_t *card, size_t card_length,
-                             size_t table_length);
+uint64_t second_change_fault(const struct edit *edit, size_t master_length, const uint8_t *card, size_t card_length, size_t table_length,
+                             size_t totals_length);
 uint64_t second_ask_fault(const struct edit *edit, size_t master_length, const uint8_t *card, size_t card_length, size_t table_length,
-                          size_t second_length);
+                          size_t second_length, size_t totals_length);
 uint64_t second_settle_fault(const uint8_t *card, size_t card_length);
 uint64_t second_draw_fault(size_t master_length, const uint8_t *card, size_t card_length, size_t message_length, const uint8_t *plan,
                            size_t plan_length, const struct when *when);
@@ -196,7 +222,7 @@ unsigned second_weekday(const struct when *when);
 
 /* The half width h of d, and P of 0..d-1 under a key, forward and backward. */
 unsigned second_half_width(uint64_t d);
-uint64_t second_permuted(const uint8_t *key, uint64_t d, uint64_t x);
-uint64_t second_permuted_back(const uint8_t *key, uint64_t d, uint64_t x);
+struct walk second_permuted(const uint8_t *key, uint64_t d, uint64_t x);
+struct walk second_permuted_back(const uint8_t *key, uint64_t d, uint64_t x);
 
 #endif

@@ -7,9 +7,9 @@
 
 /* "Only version 3 takes asks (else 2)" */
 uint64_t second_ask_fault(const struct edit *edit, size_t master_length, const uint8_t *card, size_t card_length, size_t table_length,
-                          size_t second_length)
+                          size_t second_length, size_t totals_length)
 {
-    if (master_length != LEGBARO_MASTER_BYTES || !card_sized(card_length))
+    if (master_length != LEGBARO_MASTER_BYTES || !card_sized(card_length) || totals_length != LEGBARO_TOTALS_BYTES)
         return LEGBARO_WRONG_LENGTH;
     if (version_in(card) != 3)
         return LEGBARO_WRONG_HEADER;
@@ -24,9 +24,10 @@ uint64_t second_ask_fault(const struct edit *edit, size_t master_length, const u
 /* "an ask, which writes a second table, spent records copied, and leaves the first"; "Every ask takes the last issued plus 1, even after a
  * drop" */
 static uint64_t ask(const struct edit *edit, const uint8_t *master, size_t master_length, uint8_t *card, size_t card_length,
-                    const uint8_t *table, size_t table_length, uint8_t *second, size_t second_length)
+                    const uint8_t *table, size_t table_length, uint8_t *second, size_t second_length, uint8_t *totals,
+                    size_t totals_length)
 {
-    uint64_t fault = second_ask_fault(edit, master_length, card, card_length, table_length, second_length);
+    uint64_t fault = second_ask_fault(edit, master_length, card, card_length, table_length, second_length, totals_length);
     if (fault)
         return fault;
     struct card c = second_read_card(card);
@@ -34,7 +35,7 @@ static uint64_t ask(const struct edit *edit, const uint8_t *master, size_t maste
     if (bad)
         return LEGBARO_BAD_RECORD + 256 * bad;
     memcpy(second, table, table_length);
-    c.pending_n = carry_out(edit, &c, second);
+    c.pending_n = carry_out(edit, &c, second, totals);
     c.last_issued++;
     c.pending = c.last_issued;
     second_write_card(card, &c);
@@ -48,10 +49,11 @@ uint64_t second_ask_update(const uint8_t *master, size_t master_length,
                            uint64_t m,
                            const uint8_t *old_block, size_t old_block_length,
                            const uint8_t *mark, size_t mark_length,
-                           const uint8_t *new_block, size_t new_block_length)
+                           const uint8_t *new_block, size_t new_block_length,
+                           uint8_t *totals, size_t totals_length)
 {
     struct edit edit = update_edit(m, old_block, old_block_length, mark, mark_length, new_block, new_block_length);
-    return ask(&edit, master, master_length, card, card_length, table, table_length, second, second_length);
+    return ask(&edit, master, master_length, card, card_length, table, table_length, second, second_length, totals, totals_length);
 }
 
 uint64_t second_ask_delete(const uint8_t *master, size_t master_length,
@@ -60,40 +62,44 @@ uint64_t second_ask_delete(const uint8_t *master, size_t master_length,
                            uint8_t *second, size_t second_length,
                            uint64_t m,
                            const uint8_t *old_block, size_t old_block_length,
-                           const uint8_t *mark, size_t mark_length)
+                           const uint8_t *mark, size_t mark_length,
+                           uint8_t *totals, size_t totals_length)
 {
     struct edit edit = delete_edit(m, old_block, old_block_length, mark, mark_length);
-    return ask(&edit, master, master_length, card, card_length, table, table_length, second, second_length);
+    return ask(&edit, master, master_length, card, card_length, table, table_length, second, second_length, totals, totals_length);
 }
 
 uint64_t second_ask_append(const uint8_t *master, size_t master_length,
                            uint8_t *card, size_t card_length,
                            const uint8_t *table, size_t table_length,
                            uint8_t *second, size_t second_length,
-                           const uint8_t *new_block, size_t new_block_length)
+                           const uint8_t *new_block, size_t new_block_length,
+                           uint8_t *totals, size_t totals_length)
 {
     struct edit edit = {.kind = EDIT_APPEND, .new_blocks = new_block, .new_length = new_block_length};
-    return ask(&edit, master, master_length, card, card_length, table, table_length, second, second_length);
+    return ask(&edit, master, master_length, card, card_length, table, table_length, second, second_length, totals, totals_length);
 }
 
 uint64_t second_ask_load(const uint8_t *master, size_t master_length,
                          uint8_t *card, size_t card_length,
                          const uint8_t *table, size_t table_length,
                          uint8_t *second, size_t second_length,
-                         const uint8_t *blocks, size_t blocks_length)
+                         const uint8_t *blocks, size_t blocks_length,
+                         uint8_t *totals, size_t totals_length)
 {
     struct edit edit = {.kind = EDIT_LOAD, .new_blocks = blocks, .new_length = blocks_length};
-    return ask(&edit, master, master_length, card, card_length, table, table_length, second, second_length);
+    return ask(&edit, master, master_length, card, card_length, table, table_length, second, second_length, totals, totals_length);
 }
 
 uint64_t second_ask_batch(const uint8_t *master, size_t master_length,
                           uint8_t *card, size_t card_length,
                           const uint8_t *table, size_t table_length,
                           uint8_t *second, size_t second_length,
-                          const uint8_t *items, size_t items_length)
+                          const uint8_t *items, size_t items_length,
+                          uint8_t *totals, size_t totals_length)
 {
     struct edit edit = {.kind = EDIT_BATCH, .items = items, .items_length = items_length};
-    return ask(&edit, master, master_length, card, card_length, table, table_length, second, second_length);
+    return ask(&edit, master, master_length, card, card_length, table, table_length, second, second_length, totals, totals_length);
 }
 
 /* ---- Commit and drop ---- */

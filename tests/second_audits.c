@@ -13,9 +13,11 @@ uint64_t second_set_up(const uint8_t *master, size_t master_length,
                        uint64_t B, uint64_t d, uint64_t r, uint64_t t, uint64_t n,
                        const uint8_t *blocks, size_t blocks_length,
                        uint8_t *card, size_t card_length,
-                       uint8_t *table, size_t table_length)
+                       uint8_t *table, size_t table_length,
+                       uint8_t *totals, size_t totals_length)
 {
-    if (master_length != LEGBARO_MASTER_BYTES || id_length != LEGBARO_ID_BYTES || !card_sized(card_length))
+    if (master_length != LEGBARO_MASTER_BYTES || id_length != LEGBARO_ID_BYTES || !card_sized(card_length) ||
+        totals_length != LEGBARO_TOTALS_BYTES)
         return LEGBARO_WRONG_LENGTH;
     if (!version_fits(version) || !shape_fits(B, d, r) || !within(1, t, LEGBARO_MOST_TOKENS) || !within(1, n, LEGBARO_MOST_BLOCKS))
         return LEGBARO_OUT_OF_LIMITS;
@@ -25,7 +27,7 @@ uint64_t second_set_up(const uint8_t *master, size_t master_length,
     uint8_t *marks = calloc(n, 1); /* all live */
     must(marks != NULL);
     memcpy(c.id, id, sizeof c.id);
-    second_fresh_records(master, &c, blocks, marks, 1, t, table);
+    write_totals(totals, second_fresh_records(master, &c, blocks, marks, 1, t, table));
     second_write_card(card, &c);
     free(marks);
     return LEGBARO_OK;
@@ -165,9 +167,10 @@ uint64_t second_prove(const uint8_t *message, size_t message_length,
                       const uint8_t *blocks, size_t blocks_length,
                       const uint8_t *marks, size_t marks_length,
                       const uint8_t *table, size_t table_length,
-                      uint8_t *reply, size_t reply_length)
+                      uint8_t *reply, size_t reply_length,
+                      uint8_t *totals, size_t totals_length)
 {
-    if (message_length != LEGBARO_MESSAGE_BYTES || reply_length != LEGBARO_REPLY_BYTES)
+    if (message_length != LEGBARO_MESSAGE_BYTES || reply_length != LEGBARO_REPLY_BYTES || totals_length != LEGBARO_TOTALS_BYTES)
         return LEGBARO_WRONG_LENGTH;
     struct message m = read_message(message);
     if (!version_fits(m.version) || !head_fits(message, LEGBARO_MESSAGE_BYTES, m.version))
@@ -180,7 +183,7 @@ uint64_t second_prove(const uint8_t *message, size_t message_length,
         return LEGBARO_BAD_MARK;
     uint8_t token[TOKEN_BYTES];
     struct shape shape = {m.version, m.d, m.r, m.B, m.n};
-    digest(m.k, m.c, &shape, blocks, marks, token);
+    write_totals(totals, digest(m.k, m.c, &shape, blocks, marks, token));
     uint8_t *at = put_head(reply, LEGBARO_REPLY_BYTES, m.version);
     at = put_bytes(at, m.id, sizeof m.id);
     at = put(at, 4, m.i);

@@ -48,10 +48,10 @@ uint64_t edit_fault(const struct edit *edit, const struct card *c, size_t table_
     return c->last_issued == LEGBARO_MOST_COUNTER ? LEGBARO_COUNTER_AT_MOST : LEGBARO_OK;
 }
 
-uint64_t second_change_fault(const struct edit *edit, size_t master_length, const uint8_t *card, size_t card_length,
-                             size_t table_length)
+uint64_t second_change_fault(const struct edit *edit, size_t master_length, const uint8_t *card, size_t card_length, size_t table_length,
+                             size_t totals_length)
 {
-    if (master_length != LEGBARO_MASTER_BYTES || !card_sized(card_length))
+    if (master_length != LEGBARO_MASTER_BYTES || !card_sized(card_length) || totals_length != LEGBARO_TOTALS_BYTES)
         return LEGBARO_WRONG_LENGTH;
     if (card_fault(card, card_length))
         return card_fault(card, card_length);
@@ -119,34 +119,44 @@ static struct work work_of(const struct edit *edit, const struct card *c)
 /* ---- Carrying a change out ---- */
 
 /* Opens an unused record, xors the hashes of old and new block into its token for every item whose row it draws, and seals it: "Every ask
- * takes the last issued plus 1" */
-static void reseal(uint8_t *record, const struct card *c, uint64_t i, const struct work *work)
+ * takes the last issued plus 1". Answers the work: "a change walks back once for each of its blocks, altered or not, and each unused token,
+ * hashing old and new bytes where drawn" */
+static struct totals reseal(uint8_t *record, const struct card *c, uint64_t i, const struct work *work)
 {
+    struct totals totals = {0, 0};
     uint8_t k[KEY_BYTES], hash_key[KEY_BYTES], token[TOKEN_BYTES];
     int have_hash_key = 0;
     must(open_record(record, c, i, token));
     draw_key_of(i, k);
     use_draw_key(k);
     for (const struct block_change *item = work->items; item < work->items + work->count; item++) {
-        uint64_t j = permuted_back(c->d, (item->m - 1) % c->d) + 1, index = (item->m - 1) / c->d * c->d + j;
+        struct walk walk = permuted_back(c->d, (item->m - 1) % c->d);
+        uint64_t j = walk.end + 1, index = (item->m - 1) / c->d * c->d + j;
+        totals.turns += walk.turns;
         if (j > c->r)
             continue;
         if (!have_hash_key)
             hash_key_of(i, hash_key);
         have_hash_key = 1;
-        if (item->old_block)
+        if (item->old_block) {
             mix_block(token, hash_key, index, mark_in(c->version, item->old_mark, 0), item->old_block, c->B);
+            totals.hashes++;
+        }
         mix_block(token, hash_key, index, mark_in(c->version, item->new_mark, 0), item->new_block, c->B);
+        totals.hashes++;
     }
     seal(record, c->version, c->last_issued + 1, i, token);
+    return totals;
 }
 
-uint64_t carry_out(const struct edit *edit, const struct card *c, uint8_t *table)
+uint64_t carry_out(const struct edit *edit, const struct card *c, uint8_t *table, uint8_t *totals)
 {
     struct work work = work_of(edit, c);
+    struct totals all = {0, 0};
     uint64_t n = c->n;
     for (uint64_t i = c->next; i <= c->t; i++)
-        reseal(record_at(table, i), c, i, &work);
+        second_add_totals(&all, reseal(record_at(table, i), c, i, &work));
+    write_totals(totals, all);
     for (size_t e = 0; e < work.count; e++)
         if (!work.items[e].old_block)
             n++;
@@ -157,16 +167,16 @@ uint64_t carry_out(const struct edit *edit, const struct card *c, uint8_t *table
 /* The call: its fault, 7 with the lowest unused token whose record does not open, or the change carried out. "A one-step change, load or
  * batch too, is ask and commit together" */
 static uint64_t change(const struct edit *edit, const uint8_t *master, size_t master_length, uint8_t *card, size_t card_length,
-                       uint8_t *table, size_t table_length)
+                       uint8_t *table, size_t table_length, uint8_t *totals, size_t totals_length)
 {
-    uint64_t fault = second_change_fault(edit, master_length, card, card_length, table_length);
+    uint64_t fault = second_change_fault(edit, master_length, card, card_length, table_length, totals_length);
     if (fault)
         return fault;
     struct card c = second_read_card(card);
     uint64_t bad = bad_record(master, &c, table);
     if (bad)
         return LEGBARO_BAD_RECORD + 256 * bad;
-    c.n = carry_out(edit, &c, table);
+    c.n = carry_out(edit, &c, table, totals);
     c.last_issued++;
     c.ctr = c.last_issued;
     second_write_card(card, &c);
@@ -200,10 +210,11 @@ uint64_t second_update(const uint8_t *master, size_t master_length,
                        uint64_t m,
                        const uint8_t *old_block, size_t old_block_length,
                        const uint8_t *mark, size_t mark_length,
-                       const uint8_t *new_block, size_t new_block_length)
+                       const uint8_t *new_block, size_t new_block_length,
+                       uint8_t *totals, size_t totals_length)
 {
     struct edit edit = update_edit(m, old_block, old_block_length, mark, mark_length, new_block, new_block_length);
-    return change(&edit, master, master_length, card, card_length, table, table_length);
+    return change(&edit, master, master_length, card, card_length, table, table_length, totals, totals_length);
 }
 
 uint64_t second_delete(const uint8_t *master, size_t master_length,
@@ -211,35 +222,39 @@ uint64_t second_delete(const uint8_t *master, size_t master_length,
                        uint8_t *table, size_t table_length,
                        uint64_t m,
                        const uint8_t *old_block, size_t old_block_length,
-                       const uint8_t *mark, size_t mark_length)
+                       const uint8_t *mark, size_t mark_length,
+                       uint8_t *totals, size_t totals_length)
 {
     struct edit edit = delete_edit(m, old_block, old_block_length, mark, mark_length);
-    return change(&edit, master, master_length, card, card_length, table, table_length);
+    return change(&edit, master, master_length, card, card_length, table, table_length, totals, totals_length);
 }
 
 uint64_t second_append(const uint8_t *master, size_t master_length,
                        uint8_t *card, size_t card_length,
                        uint8_t *table, size_t table_length,
-                       const uint8_t *new_block, size_t new_block_length)
+                       const uint8_t *new_block, size_t new_block_length,
+                       uint8_t *totals, size_t totals_length)
 {
     struct edit edit = {.kind = EDIT_APPEND, .new_blocks = new_block, .new_length = new_block_length};
-    return change(&edit, master, master_length, card, card_length, table, table_length);
+    return change(&edit, master, master_length, card, card_length, table, table_length, totals, totals_length);
 }
 
 uint64_t second_load(const uint8_t *master, size_t master_length,
                      uint8_t *card, size_t card_length,
                      uint8_t *table, size_t table_length,
-                     const uint8_t *blocks, size_t blocks_length)
+                     const uint8_t *blocks, size_t blocks_length,
+                     uint8_t *totals, size_t totals_length)
 {
     struct edit edit = {.kind = EDIT_LOAD, .new_blocks = blocks, .new_length = blocks_length};
-    return change(&edit, master, master_length, card, card_length, table, table_length);
+    return change(&edit, master, master_length, card, card_length, table, table_length, totals, totals_length);
 }
 
 uint64_t second_batch(const uint8_t *master, size_t master_length,
                       uint8_t *card, size_t card_length,
                       uint8_t *table, size_t table_length,
-                      const uint8_t *items, size_t items_length)
+                      const uint8_t *items, size_t items_length,
+                      uint8_t *totals, size_t totals_length)
 {
     struct edit edit = {.kind = EDIT_BATCH, .items = items, .items_length = items_length};
-    return change(&edit, master, master_length, card, card_length, table, table_length);
+    return change(&edit, master, master_length, card, card_length, table, table_length, totals, totals_length);
 }

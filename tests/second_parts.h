@@ -47,6 +47,9 @@ const uint8_t *behind_head(const uint8_t *bytes);
 struct message read_message(const uint8_t *bytes);
 void write_message(uint8_t *bytes, const struct message *m);
 
+/* Totals as they are lent. */
+void write_totals(uint8_t *bytes, struct totals totals);
+
 /* Limits: of any number, of a version, of B, d and r together, of a message. */
 int within(uint64_t least, uint64_t x, uint64_t most);
 int version_fits(uint64_t version);
@@ -64,8 +67,8 @@ void permutation_end(void);
 
 /* P under the key that was put in use last. */
 void use_draw_key(const uint8_t *key);
-uint64_t permuted(uint64_t d, uint64_t x);
-uint64_t permuted_back(uint64_t d, uint64_t x);
+struct walk permuted(uint64_t d, uint64_t x);
+struct walk permuted_back(uint64_t d, uint64_t x);
 
 /* ---- second_tokens.c ---- */
 
@@ -77,11 +80,13 @@ void hash_key_of(uint64_t i, uint8_t *c);
 /* Xors SHA-256(c, index as four bytes, mark, block) into a token, or without a mark where that is null. */
 void mix_block(uint8_t *token, const uint8_t *c, uint64_t index, const uint8_t *mark, const uint8_t *block, size_t B);
 
-/* The numbers over which a token is reckoned, and the token under k and c over n blocks; in version 1 no marks are read. */
+/* The numbers over which a token is reckoned; writes the token under k and c over n blocks, and answers the work. In version 1 no marks are
+ * read. */
 struct shape {
     uint64_t version, d, r, B, n;
 };
-void digest(const uint8_t *k, const uint8_t *c, const struct shape *shape, const uint8_t *blocks, const uint8_t *marks, uint8_t *token);
+struct totals digest(const uint8_t *k, const uint8_t *c, const struct shape *shape, const uint8_t *blocks, const uint8_t *marks,
+                     uint8_t *token);
 
 /* Mark number e, from 0, where a version has marks, null where it has none. */
 const uint8_t *mark_in(uint64_t version, const uint8_t *marks, uint64_t e);
@@ -130,8 +135,8 @@ struct edit delete_edit(uint64_t m, const uint8_t *old_block, size_t old_length,
 uint64_t edit_fault(const struct edit *edit, const struct card *c, size_t table_length);
 uint64_t bad_record(const uint8_t *master, const struct card *c, const uint8_t *table);
 
-/* Carries an edit without a fault out on a table whose unused records open, at the counter behind the last issued. Answers the number of
- * blocks after it. The file's keys are in use. */
-uint64_t carry_out(const struct edit *edit, const struct card *c, uint8_t *table);
+/* Carries an edit without a fault out on a table whose unused records open, at the counter behind the last issued. Writes the totals and
+ * answers the number of blocks after it. The file's keys are in use. */
+uint64_t carry_out(const struct edit *edit, const struct card *c, uint8_t *table, uint8_t *totals);
 
 #endif

@@ -68,32 +68,36 @@ void use_draw_key(const uint8_t *key)
     must(EVP_EncryptInit_ex(permuting, NULL, NULL, key, NULL));
 }
 
-/* "Apply all eight rounds again until the number is below d" */
-uint64_t permuted(uint64_t d, uint64_t x)
+/* "Apply all eight rounds again until the number is below d"; "how many times the eight rounds were applied, both ways" */
+struct walk permuted(uint64_t d, uint64_t x)
 {
     unsigned h = second_half_width(d);
-    do
-        x = eight_rounds(x, h);
-    while (x >= d);
-    return x;
+    struct walk walk = {x, 0};
+    do {
+        walk.end = eight_rounds(walk.end, h);
+        walk.turns++;
+    } while (walk.end >= d);
+    return walk;
 }
 
-uint64_t permuted_back(uint64_t d, uint64_t x)
+struct walk permuted_back(uint64_t d, uint64_t x)
 {
     unsigned h = second_half_width(d);
-    do
-        x = eight_rounds_back(x, h);
-    while (x >= d);
-    return x;
+    struct walk walk = {x, 0};
+    do {
+        walk.end = eight_rounds_back(walk.end, h);
+        walk.turns++;
+    } while (walk.end >= d);
+    return walk;
 }
 
-uint64_t second_permuted(const uint8_t *key, uint64_t d, uint64_t x)
+struct walk second_permuted(const uint8_t *key, uint64_t d, uint64_t x)
 {
     use_draw_key(key);
     return permuted(d, x);
 }
 
-uint64_t second_permuted_back(const uint8_t *key, uint64_t d, uint64_t x)
+struct walk second_permuted_back(const uint8_t *key, uint64_t d, uint64_t x)
 {
     use_draw_key(key);
     return permuted_back(d, x);

@@ -55,7 +55,7 @@ const uint8_t *behind_head(const uint8_t *bytes)
     return bytes + LENGTH_FIELD + 1;
 }
 
-/* ---- Card and message ---- */
+/* ---- Card, message and totals ---- */
 
 /* "Card, 43: length 41"; "Card version 3 (63 bytes, length 61)" */
 size_t second_card_bytes(uint64_t version)
@@ -127,6 +127,20 @@ void write_message(uint8_t *bytes, const struct message *m)
     at = put_bytes(at, m->k, sizeof m->k);
     put_bytes(at, m->c, sizeof m->c);
 }
+
+/* "8 bytes each": "totals of turns and of block hashes" */
+void write_totals(uint8_t *bytes, struct totals totals)
+{
+    put(put(bytes, 8, totals.turns), 8, totals.hashes);
+}
+
+void second_add_totals(struct totals *whole, struct totals part)
+{
+    whole->turns += part.turns;
+    whole->hashes += part.hashes;
+}
+
+/* ---- Limits ---- */
 
 int within(uint64_t least, uint64_t x, uint64_t most)
 {

@@ -123,19 +123,26 @@ const uint8_t *mark_in(uint64_t version, const uint8_t *marks, uint64_t e)
     return version == 1 ? NULL : marks + e;
 }
 
-/* "the xor, over every j and every block of the row drawn"; "rows beyond n are empty and add nothing" */
-void digest(const uint8_t *k, const uint8_t *c, const struct shape *shape, const uint8_t *blocks, const uint8_t *marks, uint8_t *token)
+/* "the xor, over every j and every block of the row drawn"; "rows beyond n are empty and add nothing"; "set-up and proof walk every position
+ * drawn" */
+struct totals digest(const uint8_t *k, const uint8_t *c, const struct shape *shape, const uint8_t *blocks, const uint8_t *marks,
+                     uint8_t *token)
 {
     uint64_t d = shape->d, B = shape->B;
+    struct totals totals = {0, 0};
     memset(token, 0, TOKEN_BYTES);
     use_draw_key(k);
     for (uint64_t j = 1; j <= shape->r; j++) {
-        uint64_t row = permuted(d, j - 1) + 1;
+        struct walk walk = permuted(d, j - 1);
+        uint64_t row = walk.end + 1;
+        totals.turns += walk.turns;
         for (uint64_t column = 0; column * d + row <= shape->n; column++) {
             uint64_t m = column * d + row;
             mix_block(token, c, column * d + j, mark_in(shape->version, marks, m - 1), blocks + (m - 1) * B, B);
+            totals.hashes++;
         }
     }
+    return totals;
 }
 
 /* ---- Token records ---- */
@@ -187,16 +194,18 @@ int second_token(const uint8_t *master, const struct card *c, const uint8_t *tab
     return open_record(table + (i - 1) * LEGBARO_RECORD_BYTES, c, i, token);
 }
 
-void second_fresh_records(const uint8_t *master, const struct card *c, const uint8_t *blocks, const uint8_t *marks, uint64_t first,
-                          uint64_t last, uint8_t *table)
+struct totals second_fresh_records(const uint8_t *master, const struct card *c, const uint8_t *blocks, const uint8_t *marks,
+                                   uint64_t first, uint64_t last, uint8_t *table)
 {
+    struct totals totals = {0, 0};
     struct shape shape = {c->version, c->d, c->r, c->B, c->n};
     uint8_t k[KEY_BYTES], hash_key[KEY_BYTES], token[TOKEN_BYTES];
     use_keys(master, c->id);
     for (uint64_t i = first; i <= last; i++) {
         draw_key_of(i, k);
         hash_key_of(i, hash_key);
-        digest(k, hash_key, &shape, blocks, marks, token);
+        second_add_totals(&totals, digest(k, hash_key, &shape, blocks, marks, token));
         seal(record_at(table, i), c->version, c->ctr, i, token);
     }
+    return totals;
 }

@@ -2,7 +2,7 @@
 #ifndef TESTS_H
 #define TESTS_H
 
-/* The second implementation's permutation on small d: one to one, undone backward, with paper 01's half widths. */
+/* The second implementation's permutation on small d: one to one, undone backward in as many turns, with paper 01's half widths. */
 void test_permutation(void);
 
 /* The small input of each refusal of papers 01 and 02, and what is taken at the edge. */
@@ -34,6 +34,9 @@ void test_asks(void);
 
 /* Cards of version 3: their sizes, and the limits of what is pending, at, below and above their ends. */
 void test_pending(void);
+
+/* Totals: what calls count beside what other calls count, and the bounds that a planner may quote. */
+void test_totals(void);
 
 /* Why a reply is rejected: each cause alone and all sets of them, and no cause exactly where judge accepts. */
 void test_causes(void);

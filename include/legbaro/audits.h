@@ -93,19 +93,21 @@ uint64_t legbaro_cause(const uint8_t *master, size_t master_length,
  *   marks      n bytes: the mark of each block; in version 1 empty
  *   table      at least i * LEGBARO_RECORD_BYTES, where i is the message's token; the host lends it whole
  *   reply      LEGBARO_REPLY_BYTES, written
+ *   totals     LEGBARO_TOTALS_BYTES, written: the turns of the r walks, and the hashes of all blocks in the rows drawn
  *
  * ORDER. Only blocks of the rows drawn are read: position by position, and in a row from the newest column back to the oldest. That is the
  * order in which each block is first touched. A host that maps its blocks from a file may rely on it, and have newer columns on quicker disks:
  * from the first touch of a block on, at most fifteen further blocks are touched before it has been read to its end, and then it is not read
  * again.
  *
- * Codes: 1 (message, reply), 2, 3, 1 (blocks, marks, table), 15. The version is the message's.
+ * Codes: 1 (message, reply, totals), 2, 3, 1 (blocks, marks, table), 15. The version is the message's.
  */
 uint64_t legbaro_prove(const uint8_t *message, size_t message_length,
                        const uint8_t *blocks, size_t blocks_length,
                        const uint8_t *marks, size_t marks_length,
                        const uint8_t *table, size_t table_length,
-                       uint8_t *reply, size_t reply_length);
+                       uint8_t *reply, size_t reply_length,
+                       uint8_t *totals, size_t totals_length);
 
 #ifdef __cplusplus
 }

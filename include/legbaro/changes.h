@@ -7,6 +7,7 @@
  *   card       LEGBARO_CARD_BYTES, or in version 3 LEGBARO_TWO_STEP_CARD_BYTES; written
  *   table      t * LEGBARO_RECORD_BYTES: the standing table. In one step it is written: every unused record, which is every one from next
  *              to t, is sealed again at the new counter, whether its token covers what changes or not. Spent records keep their bytes
+ *   totals     LEGBARO_TOTALS_BYTES, written: the turns, and the hashes of blocks. They stay with the owner
  *
  * The new counter is the last one issued and 1 more, and becomes the last one issued; in versions 1 and 2 the last one issued is the
  * counter. With LEGBARO_BAD_RECORD comes the lowest unused token whose record does not open: every unused record below it opens. Where the
@@ -33,10 +34,11 @@ extern "C" {
  *   blocks     blocks_count * block_bytes: the first blocks, end to end; all of them live
  *   card       the size that belongs to the version, written: n, counter 0, next 1, none open, none pending
  *   table      tokens * LEGBARO_RECORD_BYTES, written
+ *   totals     LEGBARO_TOTALS_BYTES, written: turns and hashes of all tokens
  *
  * rows is what the file is planned for. blocks_count may be less, equal or more: rows beyond it are empty, and blocks beyond rows lie in
  * further columns. With fewer blocks than rows take the positions from legbaro_positions.
- * Codes: 1 (master, id, card), 3, 1 (card, blocks, table). A card of the other version's size is told by the later 1.
+ * Codes: 1 (master, id, card, totals), 3, 1 (card, blocks, table). A card of the other version's size is told by the later 1.
  */
 uint64_t legbaro_set_up(const uint8_t *master, size_t master_length,
                         const uint8_t *id, size_t id_length,
@@ -44,7 +46,8 @@ uint64_t legbaro_set_up(const uint8_t *master, size_t master_length,
                         uint64_t block_bytes, uint64_t rows, uint64_t positions, uint64_t tokens, uint64_t blocks_count,
                         const uint8_t *blocks, size_t blocks_length,
                         uint8_t *card, size_t card_length,
-                        uint8_t *table, size_t table_length);
+                        uint8_t *table, size_t table_length,
+                        uint8_t *totals, size_t totals_length);
 
 /* ---- Changes in one step: as if they were asked and committed at once, but written to the standing table ---- */
 
@@ -56,7 +59,7 @@ uint64_t legbaro_set_up(const uint8_t *master, size_t master_length,
  *   mark       one byte, the block's mark as it is; in version 1 empty
  *   new_block  B bytes; where there are marks the block is then live
  *
- * Codes: 1 (master, card), 2, 3, 1 (table, old_block, mark, new_block), 15, 8, 18, 4, 10, 7.
+ * Codes: 1 (master, card, totals), 2, 3, 1 (table, old_block, mark, new_block), 15, 8, 18, 4, 10, 7.
  */
 uint64_t legbaro_update(const uint8_t *master, size_t master_length,
                         uint8_t *card, size_t card_length,
@@ -64,7 +67,8 @@ uint64_t legbaro_update(const uint8_t *master, size_t master_length,
                         uint64_t block,
                         const uint8_t *old_block, size_t old_block_length,
                         const uint8_t *mark, size_t mark_length,
-                        const uint8_t *new_block, size_t new_block_length);
+                        const uint8_t *new_block, size_t new_block_length,
+                        uint8_t *totals, size_t totals_length);
 
 /*
  * Deletion: block number `block` was old_block and becomes B zero bytes, which the host puts in its place; its mark becomes
@@ -72,23 +76,25 @@ uint64_t legbaro_update(const uint8_t *master, size_t master_length,
  *
  *   block, old_block, mark   as in an update
  *
- * Codes: 1 (master, card), 2, 3, 1 (table, old_block, mark), 15, 8, 18, 4, 10, 7.
+ * Codes: 1 (master, card, totals), 2, 3, 1 (table, old_block, mark), 15, 8, 18, 4, 10, 7.
  */
 uint64_t legbaro_delete(const uint8_t *master, size_t master_length,
                         uint8_t *card, size_t card_length,
                         uint8_t *table, size_t table_length,
                         uint64_t block,
                         const uint8_t *old_block, size_t old_block_length,
-                        const uint8_t *mark, size_t mark_length);
+                        const uint8_t *mark, size_t mark_length,
+                        uint8_t *totals, size_t totals_length);
 
 /*
  * Append: new_block, B bytes, comes behind the last block, and is live. n rises by 1.
- * Codes: 1 (master, card), 2, 3, 1 (table, new_block), 8, 18, 5, 10, 7.
+ * Codes: 1 (master, card, totals), 2, 3, 1 (table, new_block), 8, 18, 5, 10, 7.
  */
 uint64_t legbaro_append(const uint8_t *master, size_t master_length,
                         uint8_t *card, size_t card_length,
                         uint8_t *table, size_t table_length,
-                        const uint8_t *new_block, size_t new_block_length);
+                        const uint8_t *new_block, size_t new_block_length,
+                        uint8_t *totals, size_t totals_length);
 
 /*
  * Load: one or more new blocks come behind the last block, under one step of the counter. n rises by their number.
@@ -101,12 +107,13 @@ uint64_t legbaro_append(const uint8_t *master, size_t master_length,
  * fetched, sealed again and sent back once and not once for each block, and a thousand blocks take a small part of the time that a
  * thousand appends take. All of a load is taken or none of it.
  *
- * Codes: 1 (master, card), 2, 3, 1 (table), 8, 18, 12, 5, 10, 7. The length of blocks is told by 12, never by 1.
+ * Codes: 1 (master, card, totals), 2, 3, 1 (table), 8, 18, 12, 5, 10, 7. The length of blocks is told by 12, never by 1.
  */
 uint64_t legbaro_load(const uint8_t *master, size_t master_length,
                       uint8_t *card, size_t card_length,
                       uint8_t *table, size_t table_length,
-                      const uint8_t *blocks, size_t blocks_length);
+                      const uint8_t *blocks, size_t blocks_length,
+                      uint8_t *totals, size_t totals_length);
 
 /*
  * Batch: 1 to LEGBARO_MOST_ITEMS updates and deletions together, under one step of the counter, however many items there are.
@@ -120,13 +127,14 @@ uint64_t legbaro_load(const uint8_t *master, size_t master_length,
  * once and not once for each of them, and every unused record is opened and sealed once. What each item costs is a walk, and two hashes
  * where the token draws its row. All of a batch is taken or none of it.
  *
- * Codes: 1 (master, card), 2, 3, 1 (table), 8, 18, 14, 15, 4, 10, 7. The length of items is told by 14, never by 1. With 14, 15 or 4
- * nothing tells which item it was.
+ * Codes: 1 (master, card, totals), 2, 3, 1 (table), 8, 18, 14, 15, 4, 10, 7. The length of items is told by 14, never by 1. With 14, 15 or
+ * 4 nothing tells which item it was.
  */
 uint64_t legbaro_batch(const uint8_t *master, size_t master_length,
                        uint8_t *card, size_t card_length,
                        uint8_t *table, size_t table_length,
-                       const uint8_t *items, size_t items_length);
+                       const uint8_t *items, size_t items_length,
+                       uint8_t *totals, size_t totals_length);
 
 /* ---- Changes in two steps, in version 3 alone ---- */
 
@@ -150,7 +158,8 @@ uint64_t legbaro_ask_update(const uint8_t *master, size_t master_length,
                             uint64_t block,
                             const uint8_t *old_block, size_t old_block_length,
                             const uint8_t *mark, size_t mark_length,
-                            const uint8_t *new_block, size_t new_block_length);
+                            const uint8_t *new_block, size_t new_block_length,
+                            uint8_t *totals, size_t totals_length);
 
 uint64_t legbaro_ask_delete(const uint8_t *master, size_t master_length,
                             uint8_t *card, size_t card_length,
@@ -158,25 +167,29 @@ uint64_t legbaro_ask_delete(const uint8_t *master, size_t master_length,
                             uint8_t *second, size_t second_length,
                             uint64_t block,
                             const uint8_t *old_block, size_t old_block_length,
-                            const uint8_t *mark, size_t mark_length);
+                            const uint8_t *mark, size_t mark_length,
+                            uint8_t *totals, size_t totals_length);
 
 uint64_t legbaro_ask_append(const uint8_t *master, size_t master_length,
                             uint8_t *card, size_t card_length,
                             const uint8_t *table, size_t table_length,
                             uint8_t *second, size_t second_length,
-                            const uint8_t *new_block, size_t new_block_length);
+                            const uint8_t *new_block, size_t new_block_length,
+                            uint8_t *totals, size_t totals_length);
 
 uint64_t legbaro_ask_load(const uint8_t *master, size_t master_length,
                           uint8_t *card, size_t card_length,
                           const uint8_t *table, size_t table_length,
                           uint8_t *second, size_t second_length,
-                          const uint8_t *blocks, size_t blocks_length);
+                          const uint8_t *blocks, size_t blocks_length,
+                          uint8_t *totals, size_t totals_length);
 
 uint64_t legbaro_ask_batch(const uint8_t *master, size_t master_length,
                            uint8_t *card, size_t card_length,
                            const uint8_t *table, size_t table_length,
                            uint8_t *second, size_t second_length,
-                           const uint8_t *items, size_t items_length);
+                           const uint8_t *items, size_t items_length,
+                           uint8_t *totals, size_t totals_length);
 
 /*
  * Commit: what is pending stands. The pending counter and number of blocks become the card's, and nothing is pending any more; from then on

@@ -17,34 +17,34 @@ static const uint8_t items[2 * LEGBARO_ITEM_BYTES(LEGBARO_TWO_STEPS, B)] = {
     LEGBARO_ITEM_UPDATE, 0, 0, 0, 2, 0, 0, 0, 0, LEGBARO_LIVE, 0, 0, 0, 0, LEGBARO_ITEM_DELETE, 0, 0, 0, 3};
 static const uint8_t plan[LEGBARO_PLAN_BYTES] = {0, 0, 0, 1};
 static uint8_t blocks[(D + 2) * B], card[LEGBARO_TWO_STEP_CARD_BYTES], table[T * LEGBARO_RECORD_BYTES], second[T * LEGBARO_RECORD_BYTES];
-static uint8_t message[LEGBARO_MESSAGE_BYTES], reply[LEGBARO_REPLY_BYTES];
+static uint8_t message[LEGBARO_MESSAGE_BYTES], reply[LEGBARO_REPLY_BYTES], totals[LEGBARO_TOTALS_BYTES];
 
 /* Each answers the numbers of its calls in one, which is 0 where all were accepted. */
 static uint64_t changes(void)
 {
     uint64_t numbers = legbaro_set_up(LENT(master), LENT(id), LEGBARO_TWO_STEPS, B, D, R, T, D - 1, blocks, (D - 1) * B, LENT(card),
-                                      LENT(table));
-    numbers |= legbaro_append(FILE_LENT, LENT(zeros));
-    numbers |= legbaro_load(FILE_LENT, LENT(two));
-    numbers |= legbaro_update(FILE_LENT, 1, LENT(zeros), LENT(live), LENT(block));
-    numbers |= legbaro_delete(FILE_LENT, 1, LENT(block), LENT(live));
-    numbers |= legbaro_batch(FILE_LENT, LENT(items));
+                                      LENT(table), LENT(totals));
+    numbers |= legbaro_append(FILE_LENT, LENT(zeros), LENT(totals));
+    numbers |= legbaro_load(FILE_LENT, LENT(two), LENT(totals));
+    numbers |= legbaro_update(FILE_LENT, 1, LENT(zeros), LENT(live), LENT(block), LENT(totals));
+    numbers |= legbaro_delete(FILE_LENT, 1, LENT(block), LENT(live), LENT(totals));
+    numbers |= legbaro_batch(FILE_LENT, LENT(items), LENT(totals));
     return numbers;
 }
 
 static uint64_t asks(void)
 {
-    uint64_t numbers = legbaro_ask_append(FILE_LENT, LENT(second), LENT(zeros));
+    uint64_t numbers = legbaro_ask_append(FILE_LENT, LENT(second), LENT(zeros), LENT(totals));
     numbers |= legbaro_drop(LENT(card));
-    numbers |= legbaro_ask_load(FILE_LENT, LENT(second), LENT(two));
+    numbers |= legbaro_ask_load(FILE_LENT, LENT(second), LENT(two), LENT(totals));
     numbers |= legbaro_drop(LENT(card));
-    numbers |= legbaro_ask_update(FILE_LENT, LENT(second), 2, LENT(zeros), LENT(live), LENT(block));
+    numbers |= legbaro_ask_update(FILE_LENT, LENT(second), 2, LENT(zeros), LENT(live), LENT(block), LENT(totals));
     numbers |= legbaro_drop(LENT(card));
-    numbers |= legbaro_ask_delete(FILE_LENT, LENT(second), 2, LENT(zeros), LENT(live));
+    numbers |= legbaro_ask_delete(FILE_LENT, LENT(second), 2, LENT(zeros), LENT(live), LENT(totals));
     numbers |= legbaro_drop(LENT(card));
-    numbers |= legbaro_ask_batch(FILE_LENT, LENT(second), LENT(items));
+    numbers |= legbaro_ask_batch(FILE_LENT, LENT(second), LENT(items), LENT(totals));
     numbers |= legbaro_drop(LENT(card));
-    numbers |= legbaro_ask_update(FILE_LENT, LENT(second), 2, LENT(zeros), LENT(live), LENT(zeros));
+    numbers |= legbaro_ask_update(FILE_LENT, LENT(second), 2, LENT(zeros), LENT(live), LENT(zeros), LENT(totals));
     numbers |= legbaro_commit(LENT(card));
     return numbers;
 }
@@ -54,7 +54,7 @@ static uint64_t audit(void)
 {
     uint64_t numbers = legbaro_wait(LENT(plan), 2026, 11, 16, 0);
     numbers |= legbaro_draw(LENT(master), LENT(card), LENT(message), LENT(plan), 2026, 11, 16, 0);
-    numbers |= legbaro_prove(LENT(message), LENT(blocks), LENT(marks), LENT(second), LENT(reply));
+    numbers |= legbaro_prove(LENT(message), LENT(blocks), LENT(marks), LENT(second), LENT(reply), LENT(totals));
     numbers |= legbaro_cause(LENT(master), LENT(card), LENT(reply));
     numbers |= legbaro_judge(LENT(master), LENT(card), LENT(reply));
     return numbers;

@@ -11,7 +11,7 @@ use lib.Dec.{ltb}
 use lib.ListN.{length}
 use Rattle.scheme.specs.Ladder.{first, ifZero}
 use Rattle.scheme.specs.Records as S
-use Rattle.scheme.specs.Calls.{committedCard, droppedCard}
+use Rattle.scheme.specs.Changes.{committedCard, droppedCard}
 use Rattle.scheme.specs.Asks.{settleCode}
 use Rattle.scheme.proofs.LadderLaws.{done}
 use Rattle.records.proofs.FaultLaws.{rungs-refused, rungs-passed, rungs-zero}

@@ -1,4 +1,5 @@
-// Changes in two steps: an ask, which writes a second table and leaves the first, and then a commit or a drop, which are lent the card alone.
+// Changes in two steps: an ask, which writes a second table and the totals of its work and leaves the first table, and then a commit or a drop, which are
+// lent the card alone.
 // A call that is turned away leaves every buffer. Every function equals a definition of the scheme's Asks at the standard primitives. Nothing is assumed.
 ghost use mathlib.Core.Path.{_≡_};
 ghost use Rattle.scheme.specs.Ladder.{first};
@@ -18,10 +19,12 @@ fn check(
     old: &[u8],
     mark: &[u8],
     new: &[u8],
+    totals: &[u8],
 ) -> u64
-    ensures { λ r. ⌜ r ≡ first 0 (S.askChecks standard (now (master .entry)) (now (card .entry)) (now (table .entry)) (now (second .entry)) (editOf kind m (now (old .entry)) (now (mark .entry)) (now (new .entry)))) ⌝ }
+    ensures { λ r. ⌜ r ≡ first 0 (S.askChecks standard (now (master .entry)) (now (card .entry)) (now (table .entry)) (now (second .entry)) (editOf kind m (now (old .entry)) (now (mark .entry)) (now (new .entry))) (now (totals .entry))) ⌝ }
 {
-    if master.len() != 32 {
+    let lent = changes::lent_fits(master, totals);
+    if !lent {
         return 1;
     }
     let fault = cards::check_head(card);
@@ -42,8 +45,8 @@ fn check(
     changes::late(c, table, kind, m, old, mark, new)
 }
 
-// An ask of any kind: the number returned, the card and the second table. The standing table is only read. Nothing is written until every unused record
-// is known to open; then the second table is the standing one, spent records too, with the unused ones resealed.
+// An ask of any kind: the number returned, the card, the second table and the totals. The standing table is only read. Nothing is written until every
+// unused record is known to open; then the second table is the standing one, spent records too, with the unused ones resealed.
 pub fn ask(
     master: &[u8],
     card: &mut [u8],
@@ -54,12 +57,14 @@ pub fn ask(
     old: &[u8],
     mark: &[u8],
     new: &[u8],
+    totals: &mut [u8],
 ) -> u64
-    ensures { λ r. ⌜ r ≡ S.askCode standard (now (master .entry)) (now (card .entry)) (now (table .entry)) (now (second .entry)) (editOf kind m (now (old .entry)) (now (mark .entry)) (now (new .entry))) ⌝ }
-    ensures { λ _. ⌜ now (card .exit) ≡ S.askCard standard (now (master .entry)) (now (card .entry)) (now (table .entry)) (now (second .entry)) (editOf kind m (now (old .entry)) (now (mark .entry)) (now (new .entry))) ⌝ }
-    ensures { λ _. ⌜ now (second .exit) ≡ S.askSecond standard (now (master .entry)) (now (card .entry)) (now (table .entry)) (now (second .entry)) (editOf kind m (now (old .entry)) (now (mark .entry)) (now (new .entry))) ⌝ }
+    ensures { λ r. ⌜ r ≡ S.askCode standard (now (master .entry)) (now (card .entry)) (now (table .entry)) (now (second .entry)) (editOf kind m (now (old .entry)) (now (mark .entry)) (now (new .entry))) (now (totals .entry)) ⌝ }
+    ensures { λ _. ⌜ now (card .exit) ≡ S.askCard standard (now (master .entry)) (now (card .entry)) (now (table .entry)) (now (second .entry)) (editOf kind m (now (old .entry)) (now (mark .entry)) (now (new .entry))) (now (totals .entry)) ⌝ }
+    ensures { λ _. ⌜ now (second .exit) ≡ S.askSecond standard (now (master .entry)) (now (card .entry)) (now (table .entry)) (now (second .entry)) (editOf kind m (now (old .entry)) (now (mark .entry)) (now (new .entry))) (now (totals .entry)) ⌝ }
+    ensures { λ _. ⌜ now (totals .exit) ≡ S.askTotals standard (now (master .entry)) (now (card .entry)) (now (table .entry)) (now (second .entry)) (editOf kind m (now (old .entry)) (now (mark .entry)) (now (new .entry))) (now (totals .entry)) ⌝ }
 {
-    let code = check(master, card, table, second, kind, m, old, mark, new);
+    let code = check(master, card, table, second, kind, m, old, mark, new, totals);
     if code != 0 {
         return code;
     }
@@ -71,7 +76,7 @@ pub fn ask(
         return seven;
     }
     octets::copy(second, 0, table);
-    let blocks = changes::reseal_for(keys, c, kind, m, old, mark, new, second);
+    let blocks = changes::reseal_for(keys, c, kind, m, old, mark, new, second, totals);
     cards::write_card(card, cards::asked(c, blocks));
     0
 }

@@ -1,5 +1,5 @@
 // The card of a file: read from its bytes, checked and written, and what each call makes of it.
-// Every function equals a definition of the scheme's Records or Calls. Nothing is assumed.
+// Every function equals a definition of the scheme's Records, Calls or Changes. Nothing is assumed.
 // A card has 43 bytes, in version 3 another 20 behind them: what is told of asks.
 ghost use mathlib.Core.Path.{_≡_};
 ghost use mathlib.Core.List.{_++_};
@@ -10,7 +10,8 @@ ghost use lib.ListN.{length, getD};
 ghost use Rattle.octets.specs.Octets.{be, ofBe, part, put};
 ghost use Rattle.scheme.specs.Ladder as L;
 ghost use Rattle.scheme.specs.Records as S;
-ghost use Rattle.scheme.specs.Calls.{askedCard, committedCard, droppedCard, turnedCard};
+ghost use Rattle.scheme.specs.Calls.{turnedCard};
+ghost use Rattle.scheme.specs.Changes.{askedCard, committedCard, droppedCard};
 ghost use Rattle.cards.specs.Fields.{cardOf, toldCard, frontBytes, headFault, cardFault};
 
 // What a card holds. `open_token` is 0, or the token that is drawn and not judged yet. `last` is the last counter issued; `pending` and `count` are the

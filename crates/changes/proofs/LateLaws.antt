@@ -16,7 +16,7 @@ use lib.ListN.{length}
 use Rattle.scheme.specs.Ladder.{first, ifZero}
 use Rattle.scheme.specs.Marks.{marksFit}
 use Rattle.scheme.specs.Records as S
-use Rattle.scheme.specs.Calls.{Edit, handedFits, oldMark, placeChecks, lateChecks, unusedBad}
+use Rattle.scheme.specs.Changes.{Edit, handedFits, oldMark, placeChecks, lateChecks, unusedBad}
 use Rattle.scheme.specs.Table.{firstBad}
 use Rattle.scheme.specs.Tokens.{keyK}
 use Rattle.scheme.proofs.LadderLaws.{Codes, Holds, rung, both, kept, done, first-append, first-stage}
@@ -69,9 +69,10 @@ late-has c table edit z =
     let q = both (eqb (length table) (c .t * 63)) (handedFits c edit) (p₁ .0) in
     record { whole = eqb-true (length table) (c .t * 63) (q .0); handed = q .1; placed = p₅ .0; room = ltb-true (c .last) 4294967295 (p₆ .0) }
 
--- with its master and its card
-pub record Early (master card table : List ℕ) (edit : Edit) : Type 0 where
+-- with its master, its card and its totals
+pub record Early (master card table : List ℕ) (edit : Edit) (totals : List ℕ) : Type 0 where
   pub key32 : length master ≡ 32
+  pub counted : length totals ≡ 16
   pub fault : cardFault card ≡ 0
   pub late : Late (S.readCard card) table edit
 
@@ -84,9 +85,9 @@ pub record Held (c : Card) (table : List ℕ) (edit : Edit) : Type 0 where
   pub placed : Holds (placeChecks (cardOf c) edit)
   pub room : c .last < 4294967295
 
-pub held : {master card table : List ℕ} {edit : Edit} (c : Card) → cardOf c ≡ S.readCard card → Early master card table edit → Held c table edit
+pub held : {master card table totals : List ℕ} {edit : Edit} (c : Card) → cardOf c ≡ S.readCard card → Early master card table edit totals → Held c table edit
 unfolding cardOf
-held {master} {card} {table} {edit} c e h =
+held {master} {card} {table} {totals} {edit} c e h =
     let l : Late (cardOf c) table edit = subst (λ (x : S.Card). Late x table edit) (sym e) (h .late) in
     record {
       version = version-small (c .version) (card-version card c e (h .fault));

@@ -2,8 +2,9 @@
 --   zeros-long                               the length of zeros cut short
 --   Works                                    what the block changes of a kind are to the scheme's
 --   update-works .. batch-works              each kind's
+--   Resealed, resealed                       what resealing leaves and answers, and that of the scheme's block changes
 --   blocks-after                             the number of blocks after a change of any kind
-use Prim.Native.Nat.{ℕ, _+_, _*_, _/_, _%_, _≤_, _<_}
+use Prim.Native.Nat.{ℕ, _+_, _*_, _-_, _/_, _%_, _≤_, _<_}
 use native.Mathlib.Omega.{arith}
 use native.Mathlib.Nat.{one-mul, div-self, div-mul-le-self}
 use borrow.Author.Tests.{eqb-true, leb-true, ltb-true, eq-eqb}
@@ -20,12 +21,16 @@ use Rattle.scheme.specs.Marks.{marksIn, live, deleted, alike}
 use Rattle.scheme.specs.Batches.{itemSize, itemsFrom, kindsFit, rising, batchFits, numbersFit}
 use Rattle.scheme.specs.Batches as S
 use Rattle.scheme.specs.Lists.{pieces}
-use Rattle.scheme.specs.Calls.{Edit, update, delete, append, load, batch, loaded, workOf, blocksAfter}
+use Rattle.scheme.specs.Changes.{Edit, update, delete, append, load, batch, loaded, workOf, blocksAfter}
 use Rattle.scheme.specs.Tokens.{Change, replaced, added, addedFrom}
+use Rattle.scheme.specs.Table.{reseal}
+use Rattle.scheme.specs.Totals.{changeTurns, changeHashes}
 use Rattle.scheme.proofs.LadderLaws.{both, within-true}
+use Rattle.standard.specs.Standard.{standard}
 use Rattle.cards.specs.Fields.{cardOf}
 use Rattle.cards.specs.declared.Card.{Card}
-use Rattle.tokens.specs.Keyed.{changeOf}
+use Rattle.tokens.specs.Keyed.{Keyed, changeOf}
+use Rattle.tokens.specs.declared.Keys.{Keys}
 use Rattle.tokens.proofs.HeadLaws.{live-mark}
 use Rattle.batches.specs.Items.{itemIn}
 use Rattle.batches.proofs.ItemLaws.{marks-few}
@@ -54,6 +59,16 @@ pub record Works (c : Card) (edit : Edit) (w : Work) (om old nm new : List ℕ) 
   pub shaped : Shaped c w
   pub items : itemsOf w om old nm new ≡ workOf (cardOf c) edit
   pub after : blocksWith c w ≡ blocksAfter (cardOf c) edit
+
+-- what resealing for block changes leaves and answers, under the keys of a call
+abbrev pub Resealed : Card → Keys → List ℕ → List ℕ → ℕ → ℕ → List (ℕ × Change) → Type 0
+Resealed c keys table after turns hashes work =
+    ((master : List ℕ) → Keyed master (c .id) keys → after ≡ reseal standard master (cardOf c) work (c .tokens + 1 - c .next) (c .next) table)
+    × ((master : List ℕ) → Keyed master (c .id) keys → (turns ≡ changeTurns standard master (cardOf c) work) × (hashes ≡ changeHashes standard master (cardOf c) work))
+
+pub resealed : {c : Card} {edit : Edit} {w : Work} {om old nm new : List ℕ} (keys : Keys) (table after : List ℕ) (turns hashes : ℕ) → Works c edit w om old nm new
+    → Resealed c keys table after turns hashes (itemsOf w om old nm new) → Resealed c keys table after turns hashes (workOf (cardOf c) edit)
+resealed {c} keys table after turns hashes works h = subst (Resealed c keys table after turns hashes) (works .items) h
 
 -- a whole list as its part from 0 on
 whole-part : (B : ℕ) (xs : List ℕ) → length xs ≡ B → part (0 * B) B xs ≡ xs

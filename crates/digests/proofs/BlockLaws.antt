@@ -1,22 +1,20 @@
 -- Laws of blocks that lie one after the other in a buffer. Assumes nothing.
 --   bytes-few         as many bytes as the limits allow
 --   mark-taken        the mark of a block, as the code reads it
---   row-up            with more blocks a row has no fewer columns
---   seated            a column that a row has, and the blocks before do not reach, holds a block of the buffer
---   block-behind      a block behind others, by its place
+--   seated            a column that a row has holds a block of the buffer
+--   block-there       .. by its place
 use Prim.Native.Nat.{ℕ, zero, suc, _+_, _*_, _-_, _≤_, _<_}
 use native.Mathlib.Omega.{arith}
 use native.Mathlib.Nat.{suc-mul, mul-le-mul-right, le-trans}
 use mathlib.Core.Path.{_≡_, refl, sym, ap, subst, _∙_}
 use mathlib.Core.Logic.{_≢_}
-use mathlib.Core.List.{List, [], _∷_, _++_}
-use lib.ListN.{length, getD, take, replicate, length-replicate}
-use lib.Seq.{getD-append-add}
+use mathlib.Core.List.{List, [], _∷_}
+use lib.ListN.{length, getD, take}
 use Rattle.octets.specs.Octets.{part}
 use Rattle.octets.proofs.PartLaws.{part-more}
 use Rattle.scheme.specs.Tokens.{blockIn, columnsOf, blockAt}
-use Rattle.scheme.proofs.GeometryLaws.{in-blocks, columns-up, behind-blocks}
-use Rattle.digests.specs.Layout.{contents, contentAt, Lies, Row, Seat, behind, place}
+use Rattle.scheme.proofs.GeometryLaws.{in-blocks}
+use Rattle.digests.specs.Layout.{contents, contentAt, Lies, Row, Seat, place}
 use Rattle.digests.specs.declared.Span.{Span}
 use Rattle.digests.proofs.ContentLaws.{content-at}
 
@@ -31,37 +29,23 @@ mark-taken (suc zero) a marks h some l =
     sym (part-more a 0 marks 0 (omega arith) ∙ ap (λ (i : ℕ). getD marks i 0 ∷ []) z)
 mark-taken (suc (suc k)) a marks h some l = absurd (omega arith)
 
-pub row-up : (b : Span) (xs marks : List ℕ) → Lies b xs marks → (ρ : ℕ) → Row (b .rows) ρ → columnsOf (b .rows) (b .before) ρ ≤ columnsOf (b .rows) (b .before + b .count) ρ
-row-up b xs marks lies ρ row =
-    let up : ρ - 1 + 1 ≡ ρ = omega (arith, row .from-one) in
-    subst (λ (x : ℕ). columnsOf (b .rows) (b .before) x ≤ columnsOf (b .rows) (b .before + b .count) x) up
-    (columns-up (b .rows) (omega (arith, lies .rowed)) (b .before) (b .before + b .count) (ρ - 1) (omega arith))
-
-module _ (b : Span) (ρ q : ℕ) (xs marks : List ℕ) (lies : Lies b xs marks) (row : Row (b .rows) ρ) (older : columnsOf (b .rows) (b .before) ρ ≤ q)
-    (there : q < columnsOf (b .rows) (b .before + b .count) ρ) where
-  up : ρ ≡ ρ - 1 + 1
-  up = omega (arith, row .from-one)
-
-  below : q * b .rows + (ρ - 1) < b .before + b .count
+module _ (b : Span) (ρ q : ℕ) (xs marks : List ℕ) (lies : Lies b xs marks) (row : Row (b .rows) ρ) (there : q < columnsOf (b .rows) (b .count) ρ) where
+  below : q * b .rows + (ρ - 1) < b .count
   below =
-      in-blocks (b .rows) (omega (arith, lies .rowed)) (b .before + b .count) (ρ - 1) q (omega (arith, row .from-one, row .most))
-      (subst (λ (x : ℕ). q < columnsOf (b .rows) (b .before + b .count) x) up there)
-
-  above : b .before ≤ q * b .rows + (ρ - 1)
-  above =
-      behind-blocks (b .rows) (omega (arith, lies .rowed)) (b .before) (ρ - 1) q
-      (subst (λ (x : ℕ). columnsOf (b .rows) (b .before) x ≤ q) up older)
+      let up : ρ ≡ ρ - 1 + 1 = omega (arith, row .from-one) in
+      in-blocks (b .rows) (omega (arith, lies .rowed)) (b .count) (ρ - 1) q (omega (arith, row .from-one, row .most))
+      (subst (λ (x : ℕ). q < columnsOf (b .rows) (b .count) x) up there)
 
   there-few : place b ρ q < b .count
   unfolding place blockIn
-  there-few = omega (arith, below, above, row .from-one)
+  there-few = omega (arith, below, row .from-one)
 
   pub seated : Seat b ρ q xs marks
   seated =
       let end : place b ρ q * b .size + b .size ≤ b .count * b .size =
       le-trans (omega (arith, suc-mul (place b ρ q) (b .size))) (mul-le-mul-right {m = suc (place b ρ q)} {n = b .count} (b .size) (omega (arith, there-few))) in
       record {
-        later = omega (arith, above, row .from-one);
+        from-one = omega (arith, row .from-one);
         few = omega (arith, below, lies .few, row .from-one);
         small = lies .small;
         lone = lies .lone;
@@ -69,12 +53,6 @@ module _ (b : Span) (ρ q : ℕ) (xs marks : List ℕ) (lies : Lies b xs marks) 
         told = lies .told (place b ρ q) there-few;
       }
 
-  pub block-behind : blockAt (blockIn (b .rows) ρ q) (behind (b .before) (contents b xs marks)) ≡ contentAt b (place b ρ q) xs marks
-  unfolding blockAt blockIn behind place
-  block-behind =
-      let n = b .before in
-      let e = q * b .rows + ρ - n - 1 in
-      let at : q * b .rows + ρ - 1 ≡ length (replicate {A = List ℕ} n []) + e = omega (arith, length-replicate {A = List ℕ} n [], above, row .from-one) in
-      ap (λ (k : ℕ). getD (replicate n [] ++ contents b xs marks) k []) at
-      ∙ getD-append-add (replicate n []) (contents b xs marks) e []
-      ∙ content-at b xs marks e (omega (arith, below, above, row .from-one))
+  pub block-there : blockAt (blockIn (b .rows) ρ q) (contents b xs marks) ≡ contentAt b (place b ρ q) xs marks
+  unfolding blockAt place
+  block-there = content-at b xs marks (place b ρ q) there-few

@@ -106,7 +106,7 @@ contents-live v b xs near one =
 
 pub marked-plain : (B n : ℕ) (xs marks : List ℕ) → marked (pieces 0 n marks) (pieces B n xs) ≡ pieces B n xs
 marked-plain B n xs marks =
-    let b : Span = record { rows = 0; size = B; before = 0; count = n; mark = 0; step = 0 } in
+    let b : Span = record { rows = 0; size = B; count = n; mark = 0; step = 0 } in
     sym (contents-marked b xs marks refl) ∙ contents-plain b xs marks refl refl
 
 pub told-live : (b : Span) → b .step ≡ 0 → b .mark ≤ 1 → (e : ℕ) → e < b .count → e * b .step + b .mark ≤ length {A = ℕ} (0 ∷ [])

@@ -1,7 +1,6 @@
--- How blocks and their marks lie in two buffers, behind others that are not lent, and what is hashed of one. Assumes nothing.
+-- How blocks and their marks lie in two buffers, and what is hashed of one. Assumes nothing.
 --   spaced s k n xs           n parts of k elements of xs, each s elements further on than the one before
 --   contents b xs marks       the contents of the blocks of b: the mark of each, then its bytes
---   behind n blocks           blocks that come behind n others, whose contents are not looked at
 --   Lies b xs marks           xs holds the blocks of b and marks their marks, within the limits
 --   Row d ρ                   ρ is one of d rows
 --   place b ρ q               how many blocks of the buffer come before the one in row ρ and column q
@@ -11,7 +10,7 @@
 use Prim.Native.Nat.{ℕ, zero, suc, _+_, _*_, _-_, _≤_, _<_}
 use mathlib.Core.List.{List, [], _∷_, _++_}
 use mathlib.Core.Path.{_≡_}
-use lib.ListN.{length, take, drop, replicate}
+use lib.ListN.{length, take, drop}
 use Rattle.octets.specs.Octets.{part}
 use Rattle.scheme.specs.Lists.{pieces}
 use Rattle.scheme.specs.Marks.{marked}
@@ -28,15 +27,12 @@ spaced s k (suc n) xs = take k xs ∷ spaced s k n (drop s xs)
 unfoldable pub contents : Span → List ℕ → List ℕ → List (List ℕ)
 contents b xs marks = marked (spaced (b .step) (b .mark) (b .count) marks) (pieces (b .size) (b .count) xs)
 
-unfoldable pub behind : ℕ → List (List ℕ) → List (List ℕ)
-behind n blocks = replicate n [] ++ blocks
-
 -- "B, bytes in a block | 1 | 4,096", "d, rows | 1 | 1,048,576", "n, blocks | 1 | 16,777,216", as far as the code asks for them
 pub record Lies (b : Span) (xs marks : List ℕ) : Type 0 where
   pub rowed : 1 ≤ b .rows
   pub few-rows : b .rows ≤ 1048576
   pub small : b .size ≤ 4096
-  pub few : b .before + b .count ≤ 16777216
+  pub few : b .count ≤ 16777216
   pub whole : length xs ≡ b .count * b .size
   pub lone : b .mark ≤ 1
   pub told : (e : ℕ) → e < b .count → e * b .step + b .mark ≤ length marks
@@ -46,10 +42,10 @@ pub record Row (d ρ : ℕ) : Type 0 where
   pub most : ρ ≤ d
 
 unfoldable pub place : Span → ℕ → ℕ → ℕ
-place b ρ q = blockIn (b .rows) ρ q - b .before - 1
+place b ρ q = blockIn (b .rows) ρ q - 1
 
 pub record Seat (b : Span) (ρ q : ℕ) (xs marks : List ℕ) : Type 0 where
-  pub later : b .before < q * b .rows + ρ
+  pub from-one : 1 ≤ q * b .rows + ρ
   pub few : q * b .rows + ρ ≤ 16777216
   pub small : b .size ≤ 4096
   pub lone : b .mark ≤ 1

@@ -1,48 +1,38 @@
-// The digest of all positions: what set-up seals as a token, and what the host answers; and what blocks that come behind others make of a digest. Blocks
-// are hashed position by position, in a row from the newest column back to the oldest, and several at once, each with its mark before it where it has one.
-// Every function equals a definition of specs/ or of the scheme's Tokens at the standard primitives. Nothing is assumed.
+// The digest of all positions, which set-up seals as a token and the host answers, with the work that it took. Blocks are hashed position by position, in
+// a row from the newest column back to the oldest, and several at once, each with its mark before it where it has one.
+// Every function equals a definition of specs/ or of the scheme's Tokens and Totals at the standard primitives. Nothing is assumed.
 ghost use mathlib.Core.Path.{_≡_};
 ghost use mathlib.Core.List.{List, [], _∷_};
-ghost use Prim.Native.Nat.{ℕ, _+_, _-_, _*_, _^_, _≤_, _<_};
+ghost use Prim.Native.Nat.{_+_, _*_, _^_, _≤_, _<_};
 ghost use lib.ListN.{length, take};
 ghost use Rattle.octets.specs.Octets.{xors, part};
 ghost use Rattle.sha256.specs.Sha256 as S;
 ghost use Rattle.chacha20.specs.ChaCha20.{keyWords};
-ghost use Rattle.permutation.specs.Permutation.{forward};
 ghost use Rattle.permutation.specs.Rounds.{half};
 ghost use Rattle.permutation.specs.Table.{Tabled};
 ghost use Rattle.scheme.specs.Tokens as T;
+ghost use Rattle.scheme.specs.Totals.{digestTurns, digestHashes};
 ghost use Rattle.standard.specs.Standard.{standard};
-ghost use Rattle.digests.specs.Layout.{Lies, Row, Seat, behind, contents, place, hashAt};
+ghost use Rattle.digests.specs.Layout.{Lies, Row, Seat, contents, place, hashAt};
 ghost use Rattle.sums.specs.Waiting.{Cut, Sound, held};
 
-// How blocks lie: `count` blocks of `size` bytes that come behind `before` others, in so many rows. The mark of a block has `mark` bytes, none in
-// version 1 and one in version 2, and lies `step` bytes behind that of the block before: none where one mark stands for all blocks.
+// How blocks lie: `count` blocks of `size` bytes in so many rows. The mark of a block has `mark` bytes, none in version 1 and one in version 2, and lies
+// `step` bytes behind that of the block before: none where one mark stands for all blocks.
 pub struct Span {
     pub rows: u64,
     pub size: u64,
-    pub before: u64,
     pub count: u64,
     pub mark: u64,
     pub step: u64,
 }
 
-// The row that a position draws, under the words of a draw key. The table is empty, or has all values of the round function.
-fn drawn_row(words: [u32; 8], table: &[u16], rows: u64, j: counts::Position) -> counts::Row
-    requires { ⌜ (1 ≤ j .0) × (j .0 ≤ rows) × (rows ≤ 1048576) × Tabled words (half rows) (now table) ⌝ }
-    ensures { λ r. ⌜ (r .0 ≡ forward words rows (j .0 - 1) + 1) × Row rows (r .0) ⌝ }
-{
-    let walk = permutation::forward_in(words, table, rows, j.0 - 1);
-    counts::Row(walk.value + 1)
-}
-
 // How many blocks of the buffer come before the one in a row and a column.
 fn place_of(b: Span, row: counts::Row, column: u64) -> u64
-    requires { ⌜ (b .before < column * b .rows + row .0) × (column * b .rows + row .0 ≤ 16777216) ⌝ }
+    requires { ⌜ (1 ≤ column * b .rows + row .0) × (column * b .rows + row .0 ≤ 16777216) ⌝ }
     ensures { λ r. ⌜ (r ≡ place b (row .0) column) × (r < 16777216) ⌝ }
 {
     let m = tokens::block_in(b.rows, row, column);
-    m.0 - b.before - 1
+    m.0 - 1
 }
 
 // The mark of the block that e others come before, 0 where marks have no byte.
@@ -111,11 +101,11 @@ fn add_row(
     at: &mut [usize; 16],
 ) -> sums::Sum
     requires { ⌜ Sound s f (now blocks) (now at) × Cut f (36 + b .mark) (b .size) × Lies b (now blocks) (now marks) × Row (b .rows) (row .0) × (j .0 < 2 ^ 32) × (now pad ≡ S.padding (36 + b .mark + b .size)) × (length (now p) ≡ 3072) ⌝ }
-    requires { ⌜ (T.columnsOf (b .rows) (b .before) (row .0) ≤ oldest) × (oldest ≤ T.columnsOf (b .rows) (b .before + b .count) (row .0)) ⌝ }
-    ensures { λ r. ⌜ Sound r f (now (blocks .entry)) (now (at .exit)) × (held r f (now (blocks .entry)) (now (at .exit)) (now (p .exit)) ≡ xors (held s f (now (blocks .entry)) (now (at .entry)) (now (p .entry))) (T.rowFrom standard c (b .rows) (row .0) (j .0) (behind (b .before) (contents b (now (blocks .entry)) (now (marks .entry)))) oldest)) ⌝ }
+    requires { ⌜ oldest ≤ T.columnsOf (b .rows) (b .count) (row .0) ⌝ }
+    ensures { λ r. ⌜ Sound r f (now (blocks .entry)) (now (at .exit)) × (held r f (now (blocks .entry)) (now (at .exit)) (now (p .exit)) ≡ xors (held s f (now (blocks .entry)) (now (at .entry)) (now (p .entry))) (T.rowFrom standard c (b .rows) (row .0) (j .0) (contents b (now (blocks .entry)) (now (marks .entry))) oldest)) ⌝ }
 {
     let mut sum = s;
-    let mut q = tokens::columns_of(b.rows, b.before + b.count, row);
+    let mut q = tokens::columns_of(b.rows, b.count, row);
     while oldest < q {
         q -= 1;
         sum = add_block(sum, f, c, b, row, j, q, blocks, marks, pad, p, at);
@@ -123,75 +113,49 @@ fn add_row(
     sum
 }
 
-// The digest x with the blocks of all positions, under the words of a draw key and the hash key c. The table is empty, or has all values of the round
-// function; p is room for what waits to be hashed, cut as f says, and pad its padding.
-fn grown_in(
-    words: [u32; 8],
-    table: &[u16],
-    c: [u8; 32],
-    b: Span,
-    positions: u64,
-    blocks: &[u8],
-    marks: &[u8],
-    x: [u8; 32],
-    f: sums::Form,
-    pad: &[u8],
-    p: &mut [u8],
-) -> [u8; 32]
-    requires { ⌜ Lies b (now blocks) (now marks) × (positions ≤ b .rows) × Tabled words (half (b .rows)) (now table) × Cut f (36 + b .mark) (b .size) × (now pad ≡ S.padding (36 + b .mark + b .size)) × (length (now p) ≡ 3072) ⌝ }
-    ensures { λ r. ⌜ ((k : List ℕ) → words ≡ keyWords k → r ≡ T.workedDigest standard k c (b .rows) positions (T.addedFrom (b .before + 1) (contents b (now (blocks .entry)) (now (marks .entry)))) x) ⌝ }
-{
-    let mut at = [0usize; 16];
-    let mut sum = sums::start(x);
-    let mut drawn: u64 = 0;
-    while drawn < positions {
-        let j = counts::Position(drawn + 1);
-        let row = drawn_row(words, table, b.rows, j);
-        let oldest = tokens::columns_of(b.rows, b.before, row);
-        sum = add_row(sum, f, c, b, row, j, oldest, blocks, marks, pad, p, &mut at);
-        drawn += 1;
-    }
-    sums::settled(sum, f, blocks, &at, p)
-}
-
-// The digest x of the blocks before, under the keys k and c, once blocks come behind them. The table and p are room to work in.
-pub fn grown(
+// The digest of all positions under the keys k and c, and its work. The table is empty, or has all values of the round function under k; what waits to be
+// hashed is cut as f says, and pad is its padding.
+fn digest_in(
     k: [u8; 32],
     c: [u8; 32],
+    table: &[u16],
     b: Span,
     positions: u64,
     blocks: &[u8],
     marks: &[u8],
-    x: [u8; 32],
-    table: &mut [u16],
-    p: &mut [u8],
-) -> [u8; 32]
-    requires { ⌜ Lies b (now blocks) (now marks) × (positions ≤ b .rows) × (length (now table) ≡ 8192) × (length (now p) ≡ 3072) ⌝ }
-    ensures { λ r. ⌜ r ≡ T.workedDigest standard k c (b .rows) positions (T.addedFrom (b .before + 1) (contents b (now (blocks .entry)) (now (marks .entry)))) x ⌝ }
+    f: sums::Form,
+    pad: &[u8],
+) -> counts::Worked
+    requires { ⌜ Lies b (now blocks) (now marks) × (positions ≤ b .rows) × (positions ≤ 512) × Tabled (keyWords k) (half (b .rows)) (now table) × Cut f (36 + b .mark) (b .size) × (now pad ≡ S.padding (36 + b .mark + b .size)) ⌝ }
+    ensures { λ r. ⌜ r .digest ≡ T.digest standard k c (b .rows) positions (contents b (now (blocks .entry)) (now (marks .entry))) ⌝ }
+    ensures { λ r. ⌜ (r .turns ≡ digestTurns standard k (b .rows) positions) × (r .hashes ≡ digestHashes standard k (b .rows) positions (b .count)) ⌝ }
 {
     let words = chacha20::key_words(&k);
-    let entries = permutation::tabulated(words, b.rows, positions, table);
-    let h = head_length(b);
-    let padding = sha256::pad(h as u64 + b.size);
-    let bytes = padding.bytes;
-    let len = padding.len;
-    let f = sums::form_of(h, b.size as usize, len);
-    grown_in(
-        words,
-        &table[..entries],
-        c,
-        b,
-        positions,
-        blocks,
-        marks,
-        x,
-        f,
-        &bytes[..len],
-        p,
-    )
+    let mut at = [0usize; 16];
+    let mut p = [0u8; sums::ROOM];
+    let mut sum = sums::start([0u8; 32]);
+    let mut turns: u64 = 0;
+    let mut hashes: u64 = 0;
+    let mut drawn: u64 = 0;
+    while drawn < positions {
+        let walk = permutation::forward_in(words, table, b.rows, drawn);
+        let row = counts::Row(walk.value + 1);
+        let j = counts::Position(drawn + 1);
+        sum = add_row(sum, f, c, b, row, j, 0, blocks, marks, pad, &mut p, &mut at);
+        turns += walk.turns;
+        hashes += tokens::columns_of(b.rows, b.count, row);
+        drawn += 1;
+    }
+    let digest = sums::settled(sum, f, blocks, &at, &p);
+    counts::Worked {
+        digest,
+        turns,
+        hashes,
+    }
 }
 
-// The digest of all positions under the keys k and c, over blocks with none before them: what set-up seals as a token, and what the host answers.
+// The digest of all positions under the keys k and c, over blocks and their marks: what set-up seals as a token, and what the host answers. Its work is
+// what the definition counts: a table of the round function saves no turn, and what lanes compute besides is no hash.
 pub fn digest(
     k: [u8; 32],
     c: [u8; 32],
@@ -199,12 +163,28 @@ pub fn digest(
     positions: u64,
     blocks: &[u8],
     marks: &[u8],
-) -> [u8; 32]
-    requires { ⌜ Lies b (now blocks) (now marks) × (b .before ≡ 0) × (positions ≤ b .rows) ⌝ }
-    ensures { λ r. ⌜ r ≡ T.digest standard k c (b .rows) positions (contents b (now (blocks .entry)) (now (marks .entry))) ⌝ }
+) -> counts::Worked
+    requires { ⌜ Lies b (now blocks) (now marks) × (positions ≤ b .rows) × (positions ≤ 512) ⌝ }
+    ensures { λ r. ⌜ r .digest ≡ T.digest standard k c (b .rows) positions (contents b (now (blocks .entry)) (now (marks .entry))) ⌝ }
+    ensures { λ r. ⌜ (r .turns ≡ digestTurns standard k (b .rows) positions) × (r .hashes ≡ digestHashes standard k (b .rows) positions (b .count)) ⌝ }
 {
-    let none = [0u8; 32];
+    let words = chacha20::key_words(&k);
     let mut table = [0u16; 8192];
-    let mut p = [0u8; sums::ROOM];
-    grown(k, c, b, positions, blocks, marks, none, &mut table, &mut p)
+    let entries = permutation::tabulated(words, b.rows, positions, &mut table);
+    let h = head_length(b);
+    let padding = sha256::pad(h as u64 + b.size);
+    let bytes = padding.bytes;
+    let len = padding.len;
+    let f = sums::form_of(h, b.size as usize, len);
+    digest_in(
+        k,
+        c,
+        &table[..entries],
+        b,
+        positions,
+        blocks,
+        marks,
+        f,
+        &bytes[..len],
+    )
 }

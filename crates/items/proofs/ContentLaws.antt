@@ -2,6 +2,7 @@
 --   alone-listed, alone-counted    whether it comes alone
 --   piece-few                      where a block of several begins is a small number
 --   number-listed, number-added    the number of its block
+--   hashes-listed, hashes-added    how many hashes it takes
 --   deleted-mark                   the mark of a deleted block, as many bytes of it as its version has
 --   hash-said                      a head as far as it is lent and a block are hashed as the block, with its mark, at its index
 --   added-mixed                    an added block
@@ -19,6 +20,7 @@ use Rattle.sha256.specs.Sha256.{sha256}
 use Rattle.scheme.specs.Marks.{marksIn, live, deleted}
 use Rattle.scheme.specs.Batches.{itemSize, itemBlock}
 use Rattle.scheme.specs.Tokens.{Change, replaced, added, blockHash, mixed}
+use Rattle.scheme.specs.Totals.{hashesIn}
 use Rattle.standard.specs.Standard.{standard}
 use Rattle.sums.specs.Waiting.{said}
 use Rattle.batches.specs.Items.{itemIn}
@@ -35,6 +37,15 @@ alone-listed w l = rw l
 pub alone-counted : (w : Work) → w .listed ≡ false → eqb (w .count) 1 ≡ alone w
 unfolding alone
 alone-counted w l = rw l
+
+pub hashes-listed : (w : Work) → w .listed ≡ true → (new : List ℕ) (e : ℕ) → 2 ≡ hashesIn (severalAt w new e)
+unfolding changeAt
+hashes-listed w l new e = rw l
+
+pub hashes-added : (w : Work) (n : ℕ) → w .listed ≡ false → ((old new : List ℕ) → n ≡ hashesIn (changeOf (w .fresh) old new)) → (new : List ℕ) (e : ℕ)
+    → n ≡ hashesIn (severalAt w new e)
+unfolding changeAt
+hashes-added w n l h new e = rw l (h ([] ++ part (e * w .size) (w .size) []) (live (w .version) ++ part (e * w .size) (w .size) new))
 
 pub piece-few : (e n B : ℕ) → e < n → n ≤ 16777216 → B ≤ 4096 → e * B ≤ 68719476736
 piece-few e n B h l s = le-trans (mul-le-mul-right B (le-trans (omega arith) l)) (omega (arith, s))

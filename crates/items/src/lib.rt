@@ -1,13 +1,14 @@
 // The block changes of a call where they lie: the number of each one's block, and the hashes of what is handed over of it.
 // Every function equals a definition of specs/ or of the scheme's Tokens at the standard primitives. Nothing is assumed.
 ghost use mathlib.Core.Path.{_≡_};
-ghost use mathlib.Core.List.{[], _∷_, _++_};
+ghost use mathlib.Core.List.{List, [], _∷_, _++_};
 ghost use mathlib.Core.Bool.{true};
-ghost use Prim.Native.Nat.{_+_, _≤_, _<_};
+ghost use Prim.Native.Nat.{ℕ, _+_, _≤_, _<_};
 ghost use lib.ListN.{length, take, replicate};
 ghost use Rattle.octets.specs.Octets.{part, xors};
 ghost use Rattle.scheme.specs.Marks.{marksIn, deleted};
 ghost use Rattle.scheme.specs.Tokens as T;
+ghost use Rattle.scheme.specs.Totals.{hashesIn};
 ghost use Rattle.standard.specs.Standard.{standard};
 ghost use Rattle.sums.specs.Waiting.{held, Sound};
 ghost use Rattle.items.specs.Items as I;
@@ -45,6 +46,16 @@ pub fn number_of(work: Work, new: &[u8], e: u64) -> counts::Block
         return batches::number_of(work.version, work.size, new, e);
     }
     counts::Block(work.first + e)
+}
+
+// How many hashes each of several changes takes where its row is drawn: two of an item of a batch, one of an added block.
+pub fn hashes_of(work: Work) -> u64
+    ensures { λ r. ⌜ ((new : List ℕ) (e : ℕ) → r ≡ hashesIn (I.severalAt work new e)) × (r ≤ 2) ⌝ }
+{
+    if work.listed {
+        return 2;
+    }
+    tokens::hashes_in(work.fresh)
 }
 
 // How many bytes are hashed before a block: those of key and index, and its mark where it has one.

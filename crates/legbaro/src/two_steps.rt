@@ -2,11 +2,11 @@
 // An ask is lent what its change in one step is lent, and behind the table a second one of its size, which it writes; the table is only read. Until the
 // ask is committed or dropped it is pending, and every other ask, change and draw is refused. Every ask takes a counter of its own, dropped or not.
 ghost use mathlib.Core.Path.{_≡_};
-ghost use Rattle.scheme.specs.Calls.{update, delete, append, load, batch};
+ghost use Rattle.scheme.specs.Changes.{update, delete, append, load, batch};
 ghost use Rattle.scheme.specs.Asks as S;
 ghost use Rattle.standard.specs.Standard.{standard};
 
-// Ask for an update. Writes the card and the second table. Codes 1, 2, 3, 15, 8, 18, 4, 10, 7.
+// Ask for an update. Writes the card, the second table and the totals. Codes 1, 2, 3, 15, 8, 18, 4, 10, 7.
 #[no_mangle]
 pub extern "C" fn legbaro_ask_update(
     master: &[u8],
@@ -17,10 +17,12 @@ pub extern "C" fn legbaro_ask_update(
     old: &[u8],
     mark: &[u8],
     new: &[u8],
+    totals: &mut [u8],
 ) -> u64
-    ensures { λ r. ⌜ r ≡ S.askCode standard (now (master .entry)) (now (card .entry)) (now (table .entry)) (now (second .entry)) (update block (now (old .entry)) (now (mark .entry)) (now (new .entry))) ⌝ }
-    ensures { λ _. ⌜ now (card .exit) ≡ S.askCard standard (now (master .entry)) (now (card .entry)) (now (table .entry)) (now (second .entry)) (update block (now (old .entry)) (now (mark .entry)) (now (new .entry))) ⌝ }
-    ensures { λ _. ⌜ now (second .exit) ≡ S.askSecond standard (now (master .entry)) (now (card .entry)) (now (table .entry)) (now (second .entry)) (update block (now (old .entry)) (now (mark .entry)) (now (new .entry))) ⌝ }
+    ensures { λ r. ⌜ r ≡ S.askCode standard (now (master .entry)) (now (card .entry)) (now (table .entry)) (now (second .entry)) (update block (now (old .entry)) (now (mark .entry)) (now (new .entry))) (now (totals .entry)) ⌝ }
+    ensures { λ _. ⌜ now (card .exit) ≡ S.askCard standard (now (master .entry)) (now (card .entry)) (now (table .entry)) (now (second .entry)) (update block (now (old .entry)) (now (mark .entry)) (now (new .entry))) (now (totals .entry)) ⌝ }
+    ensures { λ _. ⌜ now (second .exit) ≡ S.askSecond standard (now (master .entry)) (now (card .entry)) (now (table .entry)) (now (second .entry)) (update block (now (old .entry)) (now (mark .entry)) (now (new .entry))) (now (totals .entry)) ⌝ }
+    ensures { λ _. ⌜ now (totals .exit) ≡ S.askTotals standard (now (master .entry)) (now (card .entry)) (now (table .entry)) (now (second .entry)) (update block (now (old .entry)) (now (mark .entry)) (now (new .entry))) (now (totals .entry)) ⌝ }
 {
     asks::ask(
         master,
@@ -32,10 +34,11 @@ pub extern "C" fn legbaro_ask_update(
         old,
         mark,
         new,
+        totals,
     )
 }
 
-// Ask for a deletion. Writes the card and the second table. Codes 1, 2, 3, 15, 8, 18, 4, 10, 7.
+// Ask for a deletion. Writes the card, the second table and the totals. Codes 1, 2, 3, 15, 8, 18, 4, 10, 7.
 #[no_mangle]
 pub extern "C" fn legbaro_ask_delete(
     master: &[u8],
@@ -45,10 +48,12 @@ pub extern "C" fn legbaro_ask_delete(
     block: u64,
     old: &[u8],
     mark: &[u8],
+    totals: &mut [u8],
 ) -> u64
-    ensures { λ r. ⌜ r ≡ S.askCode standard (now (master .entry)) (now (card .entry)) (now (table .entry)) (now (second .entry)) (delete block (now (old .entry)) (now (mark .entry))) ⌝ }
-    ensures { λ _. ⌜ now (card .exit) ≡ S.askCard standard (now (master .entry)) (now (card .entry)) (now (table .entry)) (now (second .entry)) (delete block (now (old .entry)) (now (mark .entry))) ⌝ }
-    ensures { λ _. ⌜ now (second .exit) ≡ S.askSecond standard (now (master .entry)) (now (card .entry)) (now (table .entry)) (now (second .entry)) (delete block (now (old .entry)) (now (mark .entry))) ⌝ }
+    ensures { λ r. ⌜ r ≡ S.askCode standard (now (master .entry)) (now (card .entry)) (now (table .entry)) (now (second .entry)) (delete block (now (old .entry)) (now (mark .entry))) (now (totals .entry)) ⌝ }
+    ensures { λ _. ⌜ now (card .exit) ≡ S.askCard standard (now (master .entry)) (now (card .entry)) (now (table .entry)) (now (second .entry)) (delete block (now (old .entry)) (now (mark .entry))) (now (totals .entry)) ⌝ }
+    ensures { λ _. ⌜ now (second .exit) ≡ S.askSecond standard (now (master .entry)) (now (card .entry)) (now (table .entry)) (now (second .entry)) (delete block (now (old .entry)) (now (mark .entry))) (now (totals .entry)) ⌝ }
+    ensures { λ _. ⌜ now (totals .exit) ≡ S.askTotals standard (now (master .entry)) (now (card .entry)) (now (table .entry)) (now (second .entry)) (delete block (now (old .entry)) (now (mark .entry))) (now (totals .entry)) ⌝ }
 {
     asks::ask(
         master,
@@ -60,10 +65,11 @@ pub extern "C" fn legbaro_ask_delete(
         old,
         mark,
         old,
+        totals,
     )
 }
 
-// Ask for an append. Writes the card and the second table. Codes 1, 2, 3, 8, 18, 5, 10, 7.
+// Ask for an append. Writes the card, the second table and the totals. Codes 1, 2, 3, 8, 18, 5, 10, 7.
 #[no_mangle]
 pub extern "C" fn legbaro_ask_append(
     master: &[u8],
@@ -71,10 +77,12 @@ pub extern "C" fn legbaro_ask_append(
     table: &[u8],
     second: &mut [u8],
     new: &[u8],
+    totals: &mut [u8],
 ) -> u64
-    ensures { λ r. ⌜ r ≡ S.askCode standard (now (master .entry)) (now (card .entry)) (now (table .entry)) (now (second .entry)) (append (now (new .entry))) ⌝ }
-    ensures { λ _. ⌜ now (card .exit) ≡ S.askCard standard (now (master .entry)) (now (card .entry)) (now (table .entry)) (now (second .entry)) (append (now (new .entry))) ⌝ }
-    ensures { λ _. ⌜ now (second .exit) ≡ S.askSecond standard (now (master .entry)) (now (card .entry)) (now (table .entry)) (now (second .entry)) (append (now (new .entry))) ⌝ }
+    ensures { λ r. ⌜ r ≡ S.askCode standard (now (master .entry)) (now (card .entry)) (now (table .entry)) (now (second .entry)) (append (now (new .entry))) (now (totals .entry)) ⌝ }
+    ensures { λ _. ⌜ now (card .exit) ≡ S.askCard standard (now (master .entry)) (now (card .entry)) (now (table .entry)) (now (second .entry)) (append (now (new .entry))) (now (totals .entry)) ⌝ }
+    ensures { λ _. ⌜ now (second .exit) ≡ S.askSecond standard (now (master .entry)) (now (card .entry)) (now (table .entry)) (now (second .entry)) (append (now (new .entry))) (now (totals .entry)) ⌝ }
+    ensures { λ _. ⌜ now (totals .exit) ≡ S.askTotals standard (now (master .entry)) (now (card .entry)) (now (table .entry)) (now (second .entry)) (append (now (new .entry))) (now (totals .entry)) ⌝ }
 {
     asks::ask(
         master,
@@ -86,10 +94,11 @@ pub extern "C" fn legbaro_ask_append(
         new,
         new,
         new,
+        totals,
     )
 }
 
-// Ask for a load. Writes the card and the second table. Codes 1, 2, 3, 8, 18, 12, 5, 10, 7.
+// Ask for a load. Writes the card, the second table and the totals. Codes 1, 2, 3, 8, 18, 12, 5, 10, 7.
 #[no_mangle]
 pub extern "C" fn legbaro_ask_load(
     master: &[u8],
@@ -97,10 +106,12 @@ pub extern "C" fn legbaro_ask_load(
     table: &[u8],
     second: &mut [u8],
     blocks: &[u8],
+    totals: &mut [u8],
 ) -> u64
-    ensures { λ r. ⌜ r ≡ S.askCode standard (now (master .entry)) (now (card .entry)) (now (table .entry)) (now (second .entry)) (load (now (blocks .entry))) ⌝ }
-    ensures { λ _. ⌜ now (card .exit) ≡ S.askCard standard (now (master .entry)) (now (card .entry)) (now (table .entry)) (now (second .entry)) (load (now (blocks .entry))) ⌝ }
-    ensures { λ _. ⌜ now (second .exit) ≡ S.askSecond standard (now (master .entry)) (now (card .entry)) (now (table .entry)) (now (second .entry)) (load (now (blocks .entry))) ⌝ }
+    ensures { λ r. ⌜ r ≡ S.askCode standard (now (master .entry)) (now (card .entry)) (now (table .entry)) (now (second .entry)) (load (now (blocks .entry))) (now (totals .entry)) ⌝ }
+    ensures { λ _. ⌜ now (card .exit) ≡ S.askCard standard (now (master .entry)) (now (card .entry)) (now (table .entry)) (now (second .entry)) (load (now (blocks .entry))) (now (totals .entry)) ⌝ }
+    ensures { λ _. ⌜ now (second .exit) ≡ S.askSecond standard (now (master .entry)) (now (card .entry)) (now (table .entry)) (now (second .entry)) (load (now (blocks .entry))) (now (totals .entry)) ⌝ }
+    ensures { λ _. ⌜ now (totals .exit) ≡ S.askTotals standard (now (master .entry)) (now (card .entry)) (now (table .entry)) (now (second .entry)) (load (now (blocks .entry))) (now (totals .entry)) ⌝ }
 {
     asks::ask(
         master,
@@ -112,10 +123,11 @@ pub extern "C" fn legbaro_ask_load(
         blocks,
         blocks,
         blocks,
+        totals,
     )
 }
 
-// Ask for a batch. Writes the card and the second table. Codes 1, 2, 3, 8, 18, 14, 15, 4, 10, 7.
+// Ask for a batch. Writes the card, the second table and the totals. Codes 1, 2, 3, 8, 18, 14, 15, 4, 10, 7.
 #[no_mangle]
 pub extern "C" fn legbaro_ask_batch(
     master: &[u8],
@@ -123,10 +135,12 @@ pub extern "C" fn legbaro_ask_batch(
     table: &[u8],
     second: &mut [u8],
     items: &[u8],
+    totals: &mut [u8],
 ) -> u64
-    ensures { λ r. ⌜ r ≡ S.askCode standard (now (master .entry)) (now (card .entry)) (now (table .entry)) (now (second .entry)) (batch (now (items .entry))) ⌝ }
-    ensures { λ _. ⌜ now (card .exit) ≡ S.askCard standard (now (master .entry)) (now (card .entry)) (now (table .entry)) (now (second .entry)) (batch (now (items .entry))) ⌝ }
-    ensures { λ _. ⌜ now (second .exit) ≡ S.askSecond standard (now (master .entry)) (now (card .entry)) (now (table .entry)) (now (second .entry)) (batch (now (items .entry))) ⌝ }
+    ensures { λ r. ⌜ r ≡ S.askCode standard (now (master .entry)) (now (card .entry)) (now (table .entry)) (now (second .entry)) (batch (now (items .entry))) (now (totals .entry)) ⌝ }
+    ensures { λ _. ⌜ now (card .exit) ≡ S.askCard standard (now (master .entry)) (now (card .entry)) (now (table .entry)) (now (second .entry)) (batch (now (items .entry))) (now (totals .entry)) ⌝ }
+    ensures { λ _. ⌜ now (second .exit) ≡ S.askSecond standard (now (master .entry)) (now (card .entry)) (now (table .entry)) (now (second .entry)) (batch (now (items .entry))) (now (totals .entry)) ⌝ }
+    ensures { λ _. ⌜ now (totals .exit) ≡ S.askTotals standard (now (master .entry)) (now (card .entry)) (now (table .entry)) (now (second .entry)) (batch (now (items .entry))) (now (totals .entry)) ⌝ }
 {
     asks::ask(
         master,
@@ -138,6 +152,7 @@ pub extern "C" fn legbaro_ask_batch(
         items,
         items,
         items,
+        totals,
     )
 }
 

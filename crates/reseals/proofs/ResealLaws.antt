@@ -6,25 +6,34 @@
 --   bad-later        and where record i is written anew, those behind it still do
 --   turn             both of a table whose record i is resealed
 --   reseal-more      the work that is left after record i
+--   lent-few         what is lent has few rows and few changes
+--   totals-step, totals-end        the work on the tokens from i on: on the first of them, and on none
+--   totals-fit, totals-keyed       on all of them: it fits 64 bits, and is the scheme's
 use Prim.Native.Nat.{ℕ, zero, suc, _+_, _*_, _-_, _≤_, _<_}
 use native.Mathlib.Omega.{arith}
 use mathlib.Core.Path.{_≡_, refl, sym, ap, _∙_}
-use mathlib.Core.List.{List}
-use mathlib.Core.Bool.{Bool, true, false, cond}
-use lib.ListN.{length}
+use mathlib.Core.List.{List, [], _∷_}
+use mathlib.Core.Bool.{Bool, true, false, cond, false≢true}
+use lib.ListN.{length, length-append}
+use lib.Dec.{eqb}
+use borrow.Author.Tests.{eqb-true}
 use Rattle.octets.specs.Octets.{put}
 use Rattle.octets.proofs.PartLaws.{length-put}
 use Rattle.scheme.specs.Records.{Card, recordAt}
 use Rattle.scheme.specs.Table.{there, value, tokenIn, firstBad, sealedRecord, resealedRecord, reseal}
-use Rattle.scheme.specs.Tokens.{Change, workedDigest}
+use Rattle.scheme.specs.Tokens.{Change, drawKey, workedDigest}
+use Rattle.scheme.specs.Totals.{workTurns, workHashes, changeTurns, changeHashes}
 use Rattle.scheme.proofs.RecordLaws.{record-long}
 use Rattle.scheme.proofs.TableLaws.{bad-step, all-open, reseal-step}
 use Rattle.scheme.proofs.ResealLaws.{put-later}
+use Rattle.scheme.proofs.TotalLaws.{sum-step, sum-end, sum-same, works-turns-most, works-hashes-most}
 use Rattle.standard.specs.Standard.{standard}
 use Rattle.tokens.specs.Keyed.{Keyed, tokenKey}
 use Rattle.tokens.specs.declared.Keys.{Keys}
 use Rattle.tokens.proofs.TokenKeys.{draw-key, hash-key}
-use Rattle.reseals.specs.Resealed.{resealedUnder}
+use Rattle.items.specs.Items.{numberAt, changeAt, itemsBelow, itemsOf, alone, Lent}
+use Rattle.items.specs.declared.Work.{Work}
+use Rattle.reseals.specs.Resealed.{resealedUnder, turnsFrom, hashesFrom}
 
 pub under-keyed : {master : List ℕ} {keys : Keys} (c : Card) (work : List (ℕ × Change)) (i : ℕ) (rec : List ℕ) → Keyed master (c .id) keys
     → resealedUnder keys c work i rec ≡ resealedRecord standard master c work i rec
@@ -90,3 +99,59 @@ reseal-more {master} {keys} c work t i table after k h e =
     ap (reseal standard master c work (t + 1 - (i + 1)) (i + 1))
     (e ∙ ap (λ (rec : List ℕ). put ((i - 1) * 63) rec table) (under-keyed c work i (recordAt i table) k))
     ∙ sym (reseal-step standard master c work t i table h)
+
+items-long : (n : ℕ) (f : ℕ → ℕ × Change) → length (itemsBelow n f) ≡ n
+unfolding itemsBelow
+items-long zero f = refl
+items-long (suc n) f = length-append (itemsBelow n f) (f n ∷ []) ∙ omega (arith, items-long n f)
+
+pub lent-few : (w : Work) (om old nm new : List ℕ) → Lent w om old nm new → (1 ≤ w .rows) × (w .rows ≤ 1048576) × (length (itemsOf w om old nm new) ≤ 16777216)
+unfolding alone itemsOf
+lent-few w om old nm new h = go (cond (w .listed) false (eqb (w .count) 1)) refl
+  where
+    single : (l : Bool) (n : ℕ) → cond l false (eqb n 1) ≡ true → n ≤ 16777216
+    single true n e = absurd (false≢true e)
+    single false n e = omega (arith, eqb-true n 1 e)
+
+    long : length (itemsOf w om old nm new) ≡ w .count
+    long = items-long (w .count) (λ e. (numberAt w new e, changeAt w om old nm new e))
+
+    go : (b : Bool) → alone w ≡ b → (1 ≤ w .rows) × (w .rows ≤ 1048576) × (length (itemsOf w om old nm new) ≤ 16777216)
+    go true e = (h .one e .rowed, h .one e .few-rows, omega (arith, long, single (w .listed) (w .count) e))
+    go false e = (h .several e .rowed, h .several e .few-rows, omega (arith, long, h .several e .few))
+
+-- the totals, token by token
+module _ (keys : Keys) (c : Card) (work : List (ℕ × Change)) where
+  pub totals-step : (i : ℕ) → i ≤ c .t
+      → (turnsFrom keys c work i ≡ workTurns standard (tokenKey (keys .w) i) (c .d) work + turnsFrom keys c work (i + 1))
+      × (hashesFrom keys c work i ≡ workHashes standard (tokenKey (keys .w) i) (c .d) (c .r) work + hashesFrom keys c work (i + 1))
+  unfolding turnsFrom hashesFrom
+  totals-step i h = (
+    sum-step (λ j. workTurns standard (tokenKey (keys .w) j) (c .d) work) (c .t) i h,
+    sum-step (λ j. workHashes standard (tokenKey (keys .w) j) (c .d) (c .r) work) (c .t) i h,
+  )
+
+  pub totals-end : (i : ℕ) → c .t < i → (turnsFrom keys c work i ≡ 0) × (hashesFrom keys c work i ≡ 0)
+  unfolding turnsFrom hashesFrom
+  totals-end i h = (
+    sum-end (λ j. workTurns standard (tokenKey (keys .w) j) (c .d) work) (c .t) i h,
+    sum-end (λ j. workHashes standard (tokenKey (keys .w) j) (c .d) (c .r) work) (c .t) i h,
+  )
+
+  pub totals-fit : 1 ≤ c .d → c .d ≤ 1048576 → c .t ≤ 65536 → 1 ≤ c .next → length work ≤ 16777216
+      → (turnsFrom keys c work (c .next) < 18446744073709551616) × (hashesFrom keys c work (c .next) < 18446744073709551616)
+  unfolding turnsFrom hashesFrom
+  totals-fit pos most some first many = (
+    works-turns-most standard (tokenKey (keys .w)) (c .d) (c .t + 1 - c .next) (c .next) work pos most (omega arith) many,
+    works-hashes-most standard (tokenKey (keys .w)) (c .d) (c .t + 1 - c .next) (c .next) work pos most (omega arith) many (c .r),
+  )
+
+  pub totals-keyed : {master : List ℕ} → Keyed master (c .id) keys
+      → (turnsFrom keys c work (c .next) ≡ changeTurns standard master c work) × (hashesFrom keys c work (c .next) ≡ changeHashes standard master c work)
+  unfolding turnsFrom hashesFrom changeTurns changeHashes
+  totals-keyed {master} h = (
+    sum-same (λ j. workTurns standard (tokenKey (keys .w) j) (c .d) work) (λ j. workTurns standard (drawKey standard master (c .id) j) (c .d) work)
+        (c .t + 1 - c .next) (c .next) (λ j. ap (λ (k : List ℕ). workTurns standard k (c .d) work) (draw-key h j)),
+    sum-same (λ j. workHashes standard (tokenKey (keys .w) j) (c .d) (c .r) work) (λ j. workHashes standard (drawKey standard master (c .id) j) (c .d) (c .r) work)
+        (c .t + 1 - c .next) (c .next) (λ j. ap (λ (k : List ℕ). workHashes standard k (c .d) (c .r) work) (draw-key h j)),
+  )

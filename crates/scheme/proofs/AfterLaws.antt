@@ -16,7 +16,8 @@ use lib.Dec.{eqb}
 use Rattle.scheme.specs.Lists.{joined, recordsFrom}
 use Rattle.scheme.specs.Primitives.{Primitives}
 use Rattle.scheme.specs.Records.{Card, cardBytes, recordAt}
-use Rattle.scheme.specs.Calls.{askedCard, committedCard, droppedCard, changedCard, turnedCard, Moment, drawCode, judgeFault}
+use Rattle.scheme.specs.Changes.{askedCard, committedCard, droppedCard, changedCard}
+use Rattle.scheme.specs.Calls.{turnedCard, Moment, drawCode, judgeFault}
 use Rattle.scheme.specs.Asks.{settleCode}
 use Rattle.scheme.specs.Book.{Book, joinedBlocks, bookCard, withAsk, committed, dropped, withBlocks, withTurn, freshToken, freshRecord, bookTable}
 use Rattle.scheme.proofs.LimitLaws.{Limits}

@@ -1,7 +1,7 @@
 -- #108: "A one-step change, load or batch too, is ask and commit together", on any card, any table and any bytes handed over. Assumes nothing.
 --   ask-exactly   an ask is accepted exactly where the change in one step is, the card is of version 3 and the second table is as long as the first
---   one-step      where the last two hold, both give the same number; where it is 0, the second table is the table that the change writes, and a commit is
---                 accepted and leaves the card that the change leaves
+--   one-step      where the last two hold, both give the same number and totals; where it is 0, the second table is the table that the change writes, and a
+--                 commit is accepted and leaves the card that the change leaves
 --   read-asked    the card that an accepted ask leaves
 --   read-dropped  and after its drop: as before the ask, but with one counter more issued
 use Prim.Native.Nat.{ℕ, _+_, _*_, _<_}
@@ -16,8 +16,8 @@ use lib.Dec.{eqb}
 use Rattle.scheme.specs.Ladder.{first}
 use Rattle.scheme.specs.Primitives.{Primitives}
 use Rattle.scheme.specs.Records.{Card, cardBytes, readCard, cardFits, cardSized, cardHead}
-use Rattle.scheme.specs.Calls.{Edit, lateChecks, blocksAfter, askedCard, droppedCard, changedCard, unusedBad, changeCode, changeCard, changeTable}
-use Rattle.scheme.specs.Asks.{settleCode, commitCard, dropCard, askChecks, askCode, askCard, askSecond}
+use Rattle.scheme.specs.Changes.{Edit, lateChecks, blocksAfter, askedCard, droppedCard, changedCard, unusedBad, changeCode, changeCard, changeTable, changeTotals}
+use Rattle.scheme.specs.Asks.{settleCode, commitCard, dropCard, askChecks, askCode, askCard, askSecond, askTotals}
 use Rattle.scheme.proofs.LadderLaws.{plain-codes, held, passed, passed-all, both}
 use Rattle.scheme.proofs.RecordLaws.{card-sized, card-head}
 use Rattle.scheme.proofs.LimitLaws.{card-asks}
@@ -50,7 +50,7 @@ unfolding first
 two-more a true v f s rest e g = rw (e, g)
 two-more a false v f s rest e g = refl
 
-module _ (P : Primitives) (master card table second : List ℕ) (edit : Edit) where
+module _ (P : Primitives) (master card table second : List ℕ) (edit : Edit) (totals : List ℕ) where
   abbrev c : Card
   c = readCard card
 
@@ -58,16 +58,16 @@ module _ (P : Primitives) (master card table second : List ℕ) (edit : Edit) wh
   n = blocksAfter c edit
 
   -- what an accepted ask leaves
-  module _ (ok : askCode P master card table second edit ≡ 0) where
+  module _ (ok : askCode P master card table second edit totals ≡ 0) where
     has : Changed P master c table edit
-    has = ask-has P master card table second edit ok .0
+    has = ask-has P master card table second edit totals ok .0
 
     ordered : InOrder (askedCard c n)
     ordered =
         let fit = blocks-fit P master c table edit has in
-        asked-order c (has .order) n (fit .0) (fit .1) (has .room) (ask-has P master card table second edit ok .1) (has .closed)
+        asked-order c (has .order) n (fit .0) (fit .1) (has .room) (ask-has P master card table second edit totals ok .1) (has .closed)
 
-    pub read-asked : readCard (askCard P master card table second edit) ≡ askedCard (readCard card) (blocksAfter (readCard card) edit)
+    pub read-asked : readCard (askCard P master card table second edit totals) ≡ askedCard (readCard card) (blocksAfter (readCard card) edit)
     unfolding askCard
     read-asked = rw ok (order-back (askedCard c n) ordered)
 
@@ -85,7 +85,7 @@ module _ (P : Primitives) (master card table second : List ℕ) (edit : Edit) wh
         (passed _ _ (lt-ltb 0 ((askedCard c n) .pending) pending-some) passed-all))))
 
     -- "even after a drop": the counter that the ask took stays issued
-    pub read-dropped : readCard (dropCard (askCard P master card table second edit)) ≡ issuedMore (readCard card)
+    pub read-dropped : readCard (dropCard (askCard P master card table second edit totals)) ≡ issuedMore (readCard card)
     unfolding dropCard askCard issuedMore
     read-dropped =
         let idle = has .idle in
@@ -94,39 +94,41 @@ module _ (P : Primitives) (master card table second : List ℕ) (edit : Edit) wh
         (unfold droppedCard askedCard in refl)
 
   pub record OneStep : Type 0 where
-    pub number : askCode P master card table second edit ≡ changeCode P master card table edit
-    pub table′ : changeCode P master card table edit ≡ 0 → askSecond P master card table second edit ≡ changeTable P master card table edit
-    pub commits : changeCode P master card table edit ≡ 0 → settleCode (askCard P master card table second edit) ≡ 0
-    pub card′ : changeCode P master card table edit ≡ 0 → commitCard (askCard P master card table second edit) ≡ changeCard P master card table edit
+    pub number : askCode P master card table second edit totals ≡ changeCode P master card table edit totals
+    pub work : askTotals P master card table second edit totals ≡ changeTotals P master card table edit totals
+    pub table′ : changeCode P master card table edit totals ≡ 0 → askSecond P master card table second edit totals ≡ changeTable P master card table edit totals
+    pub commits : changeCode P master card table edit totals ≡ 0 → settleCode (askCard P master card table second edit totals) ≡ 0
+    pub card′ : changeCode P master card table edit totals ≡ 0 → commitCard (askCard P master card table second edit totals) ≡ changeCard P master card table edit totals
 
   module _ (three : (readCard card) .version ≡ 3) (long : length second ≡ (readCard card) .t * 63) where
-    same-number : askCode P master card table second edit ≡ changeCode P master card table edit
+    same-number : askCode P master card table second edit totals ≡ changeCode P master card table edit totals
     unfolding askCode changeCode
     same-number =
         let bad = unusedBad P master c table in
-        two-more (eqb (length master) 32 && cardSized card) (cardHead card) (eqb (c .version) 3) (cardFits c) (eqb (length second) (c .t * 63))
+        two-more (eqb (length master) 32 && cardSized card && eqb (length totals) 16) (cardHead card) (eqb (c .version) 3) (cardFits c) (eqb (length second) (c .t * 63))
         (lateChecks c table edit ++ (eqb bad 0, 7 + 256 * bad) ∷ []) (eq-eqb (c .version) 3 three) (eq-eqb (length second) (c .t * 63) long)
 
     pub one-step : OneStep
     one-step = record {
       number = same-number;
+      work = unfold askTotals changeTotals in rw same-number;
       table′ = λ e. unfold askSecond changeTable in rw (same-number, e);
       commits = λ e. unfold askCard in rw (same-number, e) (settles (same-number ∙ e));
       card′ = λ e. unfold commitCard askCard changeCard changedCard in rw (same-number, e, settles (same-number ∙ e), order-back (askedCard c n) (ordered (same-number ∙ e)));
     }
 
   -- "Only version 3 takes asks"
-  asked-three : askCode P master card table second edit ≡ 0 → ((readCard card) .version ≡ 3) × (length second ≡ (readCard card) .t * 63)
+  asked-three : askCode P master card table second edit totals ≡ 0 → ((readCard card) .version ≡ 3) × (length second ≡ (readCard card) .t * 63)
   unfolding askCode
   asked-three ok =
-      let checks = askChecks P master card table second edit in
+      let checks = askChecks P master card table second edit totals in
       let p = held checks _ (plain-codes checks (late-plain c table edit)) ok .0 in
       (eqb-true (c .version) 3 (both (cardHead card) (eqb (c .version) 3) (p .1 .0) .1), eqb-true (length second) (c .t * 63) (p .1 .1 .1 .0))
 
-  pub ask-exactly : (askCode P master card table second edit ≡ 0)
-      ↔ ((changeCode P master card table edit ≡ 0) × ((readCard card) .version ≡ 3) × (length second ≡ (readCard card) .t * 63))
+  pub ask-exactly : (askCode P master card table second edit totals ≡ 0)
+      ↔ ((changeCode P master card table edit totals ≡ 0) × ((readCard card) .version ≡ 3) × (length second ≡ (readCard card) .t * 63))
   ask-exactly = (accepted, λ h. same-number (h .1) (h .2) ∙ h .0)
     where
-      accepted : askCode P master card table second edit ≡ 0
-          → (changeCode P master card table edit ≡ 0) × ((readCard card) .version ≡ 3) × (length second ≡ (readCard card) .t * 63)
+      accepted : askCode P master card table second edit totals ≡ 0
+          → (changeCode P master card table edit totals ≡ 0) × ((readCard card) .version ≡ 3) × (length second ≡ (readCard card) .t * 63)
       accepted ok = let p = asked-three ok in (sym (same-number (p .0) (p .1)) ∙ ok, p .0, p .1)

@@ -106,6 +106,7 @@ items-many v B (suc k) xs = ap suc (items-many v B k (drop (itemSize v B) xs))
 -- a batch that is not turned away with 14
 pub record FitBatch (c : Card) (items : List ℕ) : Type 0 where
   pub some : 1 ≤ length (itemsOf c items)
+  pub most : length (itemsOf c items) ≤ 64
   pub formed : FormedItems (c .version) (c .B) (itemsOf c items)
   pub rises : rising (itemsOf c items) ≡ true
 
@@ -120,6 +121,7 @@ batch-has c items h =
     let long : length items ≡ k * size = omega (arith, div-add-mod' (length items) size, eqb-true (length items % size) 0 (p₃ .0)) in
     record {
       some = omega (arith, within-true 1 64 k (p₃ .1) .0, items-many (c .version) (c .B) k items);
+      most = omega (arith, within-true 1 64 k (p₃ .1) .1, items-many (c .version) (c .B) k items);
       formed = items-formed (c .version) (c .B) k items long;
       rises = p₁ .1;
     }

@@ -15,7 +15,8 @@ use Rattle.octets.specs.Octets.{ofBe, part}
 use Rattle.octets.proofs.PartLaws.{length-part}
 use Rattle.scheme.specs.Marks.{versionFits}
 use Rattle.scheme.specs.Records.{Card, cardBytes, readCard, cardFits, headKnown, cardLength, cardSized, cardHead}
-use Rattle.scheme.specs.Calls.{askedCard, committedCard, droppedCard, changedCard, turnedCard}
+use Rattle.scheme.specs.Changes.{askedCard, committedCard, droppedCard, changedCard}
+use Rattle.scheme.specs.Calls.{turnedCard}
 use Rattle.scheme.proofs.LadderLaws.{both}
 use Rattle.scheme.proofs.RecordLaws.{card-back}
 use Rattle.scheme.proofs.LimitLaws.{Limits, card-limits, limits-card, Asking, card-asks, asks-none, asks-some, limits-small, read-plain}

@@ -22,7 +22,7 @@ use Rattle.scheme.specs.Primitives.{Primitives}
 use Rattle.scheme.specs.Records.{Card, readCard, headFits, recordAt}
 use Rattle.scheme.specs.Tokens.{keyK}
 use Rattle.scheme.specs.Table.{there, value, bodyIn, tokenIn, firstBad}
-use Rattle.scheme.specs.Calls.{Edit, handedFits, lateChecks, unusedBad, changeChecks, changeCode}
+use Rattle.scheme.specs.Changes.{Edit, handedFits, lateChecks, unusedBad, changeChecks, changeCode}
 use Rattle.scheme.specs.Asks.{askChecks, askCode}
 use Rattle.scheme.proofs.LadderLaws.{Plain, Holds, last-seven, first-last, both}
 use Rattle.scheme.proofs.LimitLaws.{card-limits}
@@ -54,11 +54,11 @@ module _ (P : Primitives) (master : List ℕ) (c : Card) where
       pub below : (j : ℕ) → Unused c j → j < i → Opens j (recordAt j table)
 
 -- what a change checks before the records of the table: every test holds, and so none of 1, 2, 3, 15, 8, 18, 14, 4, 12, 5 and 10 is its answer
-abbrev pub Unrefused : Primitives → List ℕ → List ℕ → List ℕ → Edit → Type 0
-Unrefused P master card table edit = Holds (changeChecks P master card table edit)
+abbrev pub Unrefused : Primitives → List ℕ → List ℕ → List ℕ → Edit → List ℕ → Type 0
+Unrefused P master card table edit totals = Holds (changeChecks P master card table edit totals)
 
-abbrev pub UnrefusedAsk : Primitives → List ℕ → List ℕ → List ℕ → List ℕ → Edit → Type 0
-UnrefusedAsk P master card table second edit = Holds (askChecks P master card table second edit)
+abbrev pub UnrefusedAsk : Primitives → List ℕ → List ℕ → List ℕ → List ℕ → Edit → List ℕ → Type 0
+UnrefusedAsk P master card table second edit totals = Holds (askChecks P master card table second edit totals)
 
 -- a token that is there behind a test
 behind : (b : Bool) (o : Option (List ℕ)) → there (cond b o none) ≡ true → (b ≡ true) × (o ≡ some (value o))
@@ -202,34 +202,34 @@ module _ (P : Primitives) (master : List ℕ) (c : Card) (table : List ℕ) (che
       code h = omega (arith, seven-number (h .0) (some-bad P master c table (next-one (h .0)) (h .1 .0) (h .1 .1)))
 
 -- of a change in one step
-module _ (P : Primitives) (master card table : List ℕ) (edit : Edit) where
-  next-one : Unrefused P master card table edit → 1 ≤ (readCard card) .next
+module _ (P : Primitives) (master card table : List ℕ) (edit : Edit) (totals : List ℕ) where
+  next-one : Unrefused P master card table edit totals → 1 ≤ (readCard card) .next
   next-one h = card-limits (readCard card) (h .1 .1 .0) .next1
 
   pub seven-lowest : (i : ℕ)
-      → (changeCode P master card table edit ≡ 7 + 256 * i) ↔ (Unrefused P master card table edit × Lowest P master (readCard card) table i)
+      → (changeCode P master card table edit totals ≡ 7 + 256 * i) ↔ (Unrefused P master card table edit totals × Lowest P master (readCard card) table i)
   unfolding changeCode
-  seven-lowest = names-lowest P master (readCard card) table (changeChecks P master card table edit) (late-plain (readCard card) table edit) next-one
+  seven-lowest = names-lowest P master (readCard card) table (changeChecks P master card table edit totals) (late-plain (readCard card) table edit) next-one
 
-  pub seven-exactly : (changeCode P master card table edit % 256 ≡ 7)
-      ↔ (Unrefused P master card table edit × ((i : ℕ) × Bad P master (readCard card) table i))
+  pub seven-exactly : (changeCode P master card table edit totals % 256 ≡ 7)
+      ↔ (Unrefused P master card table edit totals × ((i : ℕ) × Bad P master (readCard card) table i))
   unfolding changeCode
-  seven-exactly = says-seven P master (readCard card) table (changeChecks P master card table edit) (late-plain (readCard card) table edit) next-one
+  seven-exactly = says-seven P master (readCard card) table (changeChecks P master card table edit totals) (late-plain (readCard card) table edit) next-one
 
 -- and of an ask
-module _ (P : Primitives) (master card table second : List ℕ) (edit : Edit) where
-  next-one-ask : UnrefusedAsk P master card table second edit → 1 ≤ (readCard card) .next
+module _ (P : Primitives) (master card table second : List ℕ) (edit : Edit) (totals : List ℕ) where
+  next-one-ask : UnrefusedAsk P master card table second edit totals → 1 ≤ (readCard card) .next
   next-one-ask h = card-limits (readCard card) (h .1 .1 .0) .next1
 
   pub seven-lowest-ask : (i : ℕ)
-      → (askCode P master card table second edit ≡ 7 + 256 * i) ↔ (UnrefusedAsk P master card table second edit × Lowest P master (readCard card) table i)
+      → (askCode P master card table second edit totals ≡ 7 + 256 * i) ↔ (UnrefusedAsk P master card table second edit totals × Lowest P master (readCard card) table i)
   unfolding askCode
-  seven-lowest-ask = names-lowest P master (readCard card) table (askChecks P master card table second edit) (late-plain (readCard card) table edit) next-one-ask
+  seven-lowest-ask = names-lowest P master (readCard card) table (askChecks P master card table second edit totals) (late-plain (readCard card) table edit) next-one-ask
 
-  pub seven-exactly-ask : (askCode P master card table second edit % 256 ≡ 7)
-      ↔ (UnrefusedAsk P master card table second edit × ((i : ℕ) × Bad P master (readCard card) table i))
+  pub seven-exactly-ask : (askCode P master card table second edit totals % 256 ≡ 7)
+      ↔ (UnrefusedAsk P master card table second edit totals × ((i : ℕ) × Bad P master (readCard card) table i))
   unfolding askCode
-  seven-exactly-ask = says-seven P master (readCard card) table (askChecks P master card table second edit) (late-plain (readCard card) table edit) next-one-ask
+  seven-exactly-ask = says-seven P master (readCard card) table (askChecks P master card table second edit totals) (late-plain (readCard card) table edit) next-one-ask
 
 -- "Our planners fetch records again from the number that code 7 gives": the table is then as long as it was, has the unused records below that number as
 -- they were, and from there on, to t, records that open
@@ -261,21 +261,21 @@ module _ (P : Primitives) (master card table fetched : List ℕ) (i : ℕ) (long
             let b = bad-lowest P master (readCard card) fetched (omega arith) .bad in
             absurd (b .1 (all-sound (unusedBad P master (readCard card) fetched) (b .0)))
 
-  pub mended : (edit : Edit) → changeCode P master card table edit ≡ 7 + 256 * i → changeCode P master card fetched edit ≡ 0
+  pub mended : (edit : Edit) (totals : List ℕ) → changeCode P master card table edit totals ≡ 7 + 256 * i → changeCode P master card fetched edit totals ≡ 0
   unfolding changeCode
-  mended edit seven =
+  mended edit totals seven =
       let bad = unusedBad P master (readCard card) fetched in
-      let p = seven-lowest P master card table edit i .0 seven in
+      let p = seven-lowest P master card table edit totals i .0 seven in
       let h = p .0 in
-      first-last (changeChecks P master card fetched edit) (eqb bad 0, 7 + 256 * bad) (h .0, (h .1 .0, (h .1 .1 .0, same-late edit (h .1 .1 .1))))
+      first-last (changeChecks P master card fetched edit totals) (eqb bad 0, 7 + 256 * bad) (h .0, (h .1 .0, (h .1 .1 .0, same-late edit (h .1 .1 .1))))
       ∙ rw (none-bad (p .1)) refl
 
-  pub mended-ask : (second : List ℕ) (edit : Edit) → askCode P master card table second edit ≡ 7 + 256 * i → askCode P master card fetched second edit ≡ 0
+  pub mended-ask : (second : List ℕ) (edit : Edit) (totals : List ℕ) → askCode P master card table second edit totals ≡ 7 + 256 * i → askCode P master card fetched second edit totals ≡ 0
   unfolding askCode
-  mended-ask second edit seven =
+  mended-ask second edit totals seven =
       let bad = unusedBad P master (readCard card) fetched in
-      let p = seven-lowest-ask P master card table second edit i .0 seven in
+      let p = seven-lowest-ask P master card table second edit totals i .0 seven in
       let h = p .0 in
-      first-last (askChecks P master card fetched second edit) (eqb bad 0, 7 + 256 * bad)
+      first-last (askChecks P master card fetched second edit totals) (eqb bad 0, 7 + 256 * bad)
       (h .0, (h .1 .0, (h .1 .1 .0, (h .1 .1 .1 .0, same-late edit (h .1 .1 .1 .1)))))
       ∙ rw (none-bad (p .1)) refl

@@ -16,7 +16,7 @@ use Rattle.scheme.specs.Marks.{marksIn, live, deleted}
 use Rattle.scheme.specs.Records.{Card}
 use Rattle.scheme.specs.Tokens.{Change, replaced, added, addedFrom, digest, blockAt, workedDigest}
 use Rattle.scheme.specs.Batches.{itemsOf, batchWork}
-use Rattle.scheme.specs.Calls.{Edit, update, delete, append, load, batch, loaded, workOf, blocksAfter}
+use Rattle.scheme.specs.Changes.{Edit, update, delete, append, load, batch, loaded, workOf, blocksAfter}
 use Rattle.scheme.specs.Book.{Book, bookCard, edited, bookTable, PresentIn}
 use Rattle.scheme.proofs.TokenLaws.{applied, Right, digest-worked, applied-added, right-added}
 use Rattle.scheme.proofs.LadderLaws.{both, within-true}

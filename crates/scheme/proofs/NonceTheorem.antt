@@ -21,8 +21,8 @@ use Rattle.scheme.specs.Marks.{live, alike}
 use Rattle.scheme.specs.Records.{Card, cardBytes, readCard, recordAt}
 use Rattle.scheme.specs.Tokens.{keyK, token}
 use Rattle.scheme.specs.Table.{sealedRecord, resealedRecord}
-use Rattle.scheme.specs.Calls.{setUpCode, setUpCard, setUpTable, Edit, askedCard, committedCard, droppedCard, changedCard, turnedCard}
-use Rattle.scheme.specs.Calls.{changeCode, changeCard, changeTable, Moment, drawCode, drawCard, judgeFault, judgeCard}
+use Rattle.scheme.specs.Changes.{Edit, askedCard, committedCard, droppedCard, changedCard, changeCode, changeCard, changeTable}
+use Rattle.scheme.specs.Calls.{setUpCode, setUpCard, setUpTable, turnedCard, Moment, drawCode, drawCard, judgeFault, judgeCard}
 use Rattle.scheme.specs.Asks.{settleCode, commitCard, dropCard, askCode, askCard}
 use Rattle.scheme.specs.Book.{Call, change, ask, commit, drop, draw, judge, Lent, started, bookCard, callCode, callCard, callTable, callAsked}
 use Rattle.scheme.specs.Nonces.{Rising, noncesFrom, unusedNonces, Missing, Once, takes, writes, taken, sealed, counters, seals}
@@ -88,20 +88,20 @@ nothing (suc n) = refl
 
 module _ (P : Primitives) where
   -- an accepted change seals unused record i under the last issued plus 1 and i: such is the nonce of a sealed record
-  module _ (master card table : List ℕ) (edit : Edit) (ok : changeCode P master card table edit ≡ 0) where
+  module _ (master card table : List ℕ) (edit : Edit) (totals : List ℕ) (ok : changeCode P master card table edit totals ≡ 0) where
     pub sealed-under : (i : ℕ) → (readCard card) .next ≤ i → i ≤ (readCard card) .t
-        → (x : List ℕ) × (recordAt i (changeTable P master card table edit)
+        → (x : List ℕ) × (recordAt i (changeTable P master card table edit totals)
         ≡ sealedRecord P (keyK P master ((readCard card) .id)) ((readCard card) .version) ((readCard card) .last + 1) i x)
     unfolding resealedRecord
-    sealed-under i h l = (_, record-changed P master card table edit ok i h l)
+    sealed-under i h l = (_, record-changed P master card table edit totals ok i h l)
 
-    change-nonces : unusedNonces (readCard card) (changeTable P master card table edit)
+    change-nonces : unusedNonces (readCard card) (changeTable P master card table edit totals)
         ≡ pairsFrom ((readCard card) .last + 1) ((readCard card) .t + 1 - (readCard card) .next) ((readCard card) .next)
     change-nonces =
         let c = readCard card in
-        let has = change-has P master card table edit ok in
+        let has = change-has P master card table edit totals ok in
         let limits = card-limits c (has .order .fits) in
-        nonces-are (c .last + 1) (c .t + 1 - c .next) (c .next) (changeTable P master card table edit)
+        nonces-are (c .last + 1) (c .t + 1 - c .next) (c .next) (changeTable P master card table edit totals)
         (λ j u v.
         let s = sealed-under j u (omega arith) in
         let key = keyK P master (c .id) in (
@@ -109,8 +109,8 @@ module _ (P : Primitives) where
           rw (s .1) (sealed-i P key (c .version) (c .last + 1) j (s .0) (omega (arith, limits .tmost))),
         ))
 
-    change-last : (readCard (changeCard P master card table edit)) .last ≡ (readCard card) .last + 1
-    change-last = rw (card-changed P master card table edit ok) (unfold changedCard committedCard askedCard in refl)
+    change-last : (readCard (changeCard P master card table edit totals)) .last ≡ (readCard card) .last + 1
+    change-last = rw (card-changed P master card table edit totals ok) (unfold changedCard committedCard askedCard in refl)
 
   -- what a call does to the last counter issued: nothing, or one step, and the records that it seals are under the new one
   record Still (x : Lent) (card table : List ℕ) : Type 0 where
@@ -172,47 +172,47 @@ module _ (P : Primitives) where
             turned-order c (h .order) (c .next) 0 (idle (h .order) (h .some-open) (c .pending) refl) (limits .next1) (limits .nextmost) refl
 
     -- an accepted change, and an accepted ask, which writes what the change would
-    change-steps : (edit : Edit) → changeCode P master card table edit ≡ 0
-        → Steps (record { master = master; call = change edit }) card table ((readCard card) .last + 1)
+    change-steps : (edit : Edit) (totals : List ℕ) → changeCode P master card table edit totals ≡ 0
+        → Steps (record { master = master; call = change edit totals }) card table ((readCard card) .last + 1)
     unfolding taken sealed
-    change-steps edit ok =
-        let l = change-last master card table edit ok in
-        record { one-taken = rw (ok, l); all-under = rw ok (change-nonces master card table edit ok); above = omega arith; rises = l }
+    change-steps edit totals ok =
+        let l = change-last master card table edit totals ok in
+        record { one-taken = rw (ok, l); all-under = rw ok (change-nonces master card table edit totals ok); above = omega arith; rises = l }
 
-    ask-steps : (edit : Edit) (second : List ℕ) → askCode P master card table second edit ≡ 0
-        → Steps (record { master = master; call = ask edit second }) card table ((readCard card) .last + 1)
+    ask-steps : (edit : Edit) (second totals : List ℕ) → askCode P master card table second edit totals ≡ 0
+        → Steps (record { master = master; call = ask edit second totals }) card table ((readCard card) .last + 1)
     unfolding taken sealed
-    ask-steps edit second ok =
-        let h = ask-exactly P master card table second edit .0 ok in
-        let same = one-step P master card table second edit (h .1) (h .2) .table′ (h .0) in
-        let l : (readCard (askCard P master card table second edit)) .last ≡ (readCard card) .last + 1 =
-        rw (read-asked P master card table second edit ok) (unfold askedCard in refl) in
-        record { one-taken = rw (ok, l); all-under = rw (ok, same) (change-nonces master card table edit (h .0)); above = omega arith; rises = l }
+    ask-steps edit second totals ok =
+        let h = ask-exactly P master card table second edit totals .0 ok in
+        let same = one-step P master card table second edit totals (h .1) (h .2) .table′ (h .0) in
+        let l : (readCard (askCard P master card table second edit totals)) .last ≡ (readCard card) .last + 1 =
+        rw (read-asked P master card table second edit totals ok) (unfold askedCard in refl) in
+        record { one-taken = rw (ok, l); all-under = rw (ok, same) (change-nonces master card table edit totals (h .0)); above = omega arith; rises = l }
 
     -- a refused one
-    refused-change : (edit : Edit) (n : ℕ) → changeCode P master card table edit ≡ suc n → Still (record { master = master; call = change edit }) card table
+    refused-change : (edit : Edit) (totals : List ℕ) (n : ℕ) → changeCode P master card table edit totals ≡ suc n → Still (record { master = master; call = change edit totals }) card table
     unfolding taken sealed changeCard
-    refused-change edit n e = record { none-taken = rw e; none-sealed = rw e; stays = rw e }
+    refused-change edit totals n e = record { none-taken = rw e; none-sealed = rw e; stays = rw e }
 
-    refused-ask : (edit : Edit) (second : List ℕ) (n : ℕ) → askCode P master card table second edit ≡ suc n
-        → Still (record { master = master; call = ask edit second }) card table
+    refused-ask : (edit : Edit) (second totals : List ℕ) (n : ℕ) → askCode P master card table second edit totals ≡ suc n
+        → Still (record { master = master; call = ask edit second totals }) card table
     unfolding taken sealed askCard
-    refused-ask edit second n e = record { none-taken = rw e; none-sealed = rw e; stays = rw e }
+    refused-ask edit second totals n e = record { none-taken = rw e; none-sealed = rw e; stays = rw e }
 
     either : (x : Call) → Still (record { master = master; call = x }) card table ⊎ Steps (record { master = master; call = x }) card table ((readCard card) .last + 1)
-    either (change edit) = go (changeCode P master card table edit) refl
+    either (change edit totals) = go (changeCode P master card table edit totals) refl
       where
-        go : (n : ℕ) → changeCode P master card table edit ≡ n
-            → Still (record { master = master; call = change edit }) card table ⊎ Steps (record { master = master; call = change edit }) card table ((readCard card) .last + 1)
-        go zero e = inr (change-steps edit e)
-        go (suc n) e = inl (refused-change edit n e)
-    either (ask edit second) = go (askCode P master card table second edit) refl
+        go : (n : ℕ) → changeCode P master card table edit totals ≡ n
+            → Still (record { master = master; call = change edit totals }) card table ⊎ Steps (record { master = master; call = change edit totals }) card table ((readCard card) .last + 1)
+        go zero e = inr (change-steps edit totals e)
+        go (suc n) e = inl (refused-change edit totals n e)
+    either (ask edit second totals) = go (askCode P master card table second edit totals) refl
       where
-        go : (n : ℕ) → askCode P master card table second edit ≡ n
-            → Still (record { master = master; call = ask edit second }) card table
-            ⊎ Steps (record { master = master; call = ask edit second }) card table ((readCard card) .last + 1)
-        go zero e = inr (ask-steps edit second e)
-        go (suc n) e = inl (refused-ask edit second n e)
+        go : (n : ℕ) → askCode P master card table second edit totals ≡ n
+            → Still (record { master = master; call = ask edit second totals }) card table
+            ⊎ Steps (record { master = master; call = ask edit second totals }) card table ((readCard card) .last + 1)
+        go zero e = inr (ask-steps edit second totals e)
+        go (suc n) e = inl (refused-ask edit second totals n e)
     either commit = inl (still commit last-commit refl refl)
     either drop = inl (still drop last-drop refl refl)
     either (draw message plan now) = inl (still (draw message plan now) (last-draw message plan now) refl refl)
@@ -274,9 +274,9 @@ module _ (P : Primitives) where
       go (yes e) later = ap (λ (n : ℕ). recordAt n (p ++ (f i ++ rest))) (sym e) ∙ record-at i p (f i) rest h (long i) ∙ ap f e
       go (no n) later = ap (recordAt j) (sym (append-assoc p (f i) rest)) ∙ later (omega arith) (omega arith)
 
-  module _ (master id : List ℕ) (v B d r t n : ℕ) (blocks card table : List ℕ) (ok : setUpCode P master id v B d r t n blocks card table ≡ 0) where
+  module _ (master id : List ℕ) (v B d r t n : ℕ) (blocks card table totals : List ℕ) (ok : setUpCode P master id v B d r t n blocks card table totals ≡ 0) where
     -- set-up seals at counter 0
-    start-nonces : noncesFrom t 1 (setUpTable P master id v B d r t n blocks card table) ≡ pairsFrom 0 t 1
+    start-nonces : noncesFrom t 1 (setUpTable P master id v B d r t n blocks card table totals) ≡ pairsFrom 0 t 1
     unfolding setUpTable token
     start-nonces = rw ok (nonces-are 0 t 1 (recordsFrom f t 1) own)
       where
@@ -289,24 +289,24 @@ module _ (P : Primitives) where
         own : (j : ℕ) → 1 ≤ j → j < 1 + t → (ofBe (part 3 8 (recordAt j (recordsFrom f t 1))) ≡ 0) × (ofBe (part 11 4 (recordAt j (recordsFrom f t 1))) ≡ j)
         own j l u =
             let e = records-at f long t 1 [] (omega arith) refl j l u in
-            let has = set-up-has P master id v B d r t n blocks card table ok in (
+            let has = set-up-has P master id v B d r t n blocks card table totals ok in (
               rw e (sealed-ctr P (keyK P master id) v 0 j _ (omega arith)),
               rw e (sealed-i P (keyK P master id) v 0 j _ (omega (arith, has .tmost))),
             )
 
-    start-last : (readCard (setUpCard P master id v B d r t n blocks card table)) .last ≡ 0
+    start-last : (readCard (setUpCard P master id v B d r t n blocks card table totals)) .last ≡ 0
     start-last =
         let b = started master id v B d r t n blocks in
         ap (λ (c : Card). c .last)
-        (ap readCard (start-card P master id v B d r t n blocks card table ok) ∙ back P b (start-good P master id v B d r t n blocks card table ok))
+        (ap readCard (start-card P master id v B d r t n blocks card table totals ok) ∙ back P b (start-good P master id v B d r t n blocks card table totals ok))
         ∙ (unfold bookCard started in refl)
 
     -- "a nonce may seal only once"
     pub seals-once : (calls : List Lent) (asked : List ℕ)
-        → Once (noncesFrom t 1 (setUpTable P master id v B d r t n blocks card table)
-        ++ seals P calls (setUpCard P master id v B d r t n blocks card table) (setUpTable P master id v B d r t n blocks card table) asked)
+        → Once (noncesFrom t 1 (setUpTable P master id v B d r t n blocks card table totals)
+        ++ seals P calls (setUpCard P master id v B d r t n blocks card table totals) (setUpTable P master id v B d r t n blocks card table totals) asked)
     seals-once calls asked =
-        let card′ = setUpCard P master id v B d r t n blocks card table in
-        let table′ = setUpTable P master id v B d r t n blocks card table in
+        let card′ = setUpCard P master id v B d r t n blocks card table totals in
+        let table′ = setUpTable P master id v B d r t n blocks card table totals in
         let p = seals-above calls card′ table′ asked in
         rw start-nonces (once-more 0 t 1 (seals P calls card′ table′ asked) (subst (λ (m : ℕ). Above m (seals P calls card′ table′ asked)) start-last (p .0)) (p .1))

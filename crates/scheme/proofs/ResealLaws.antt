@@ -24,7 +24,8 @@ use Rattle.scheme.specs.Primitives.{Primitives}
 use Rattle.scheme.specs.Records.{Card, cardBytes, readCard, headFits, nonceBytes, recordAt}
 use Rattle.scheme.specs.Tokens.{Change, keyK, drawKey, hashKey, workedDigest}
 use Rattle.scheme.specs.Table.{there, value, bodyIn, tokenIn, resealedRecord, reseal}
-use Rattle.scheme.specs.Calls.{Edit, update, delete, append, load, batch, workOf, blocksAfter, askedCard, committedCard, changedCard, unusedBad, changeCode, changeCard, changeTable}
+use Rattle.scheme.specs.Changes.{Edit, update, delete, append, load, batch, workOf, blocksAfter, askedCard, committedCard, changedCard, unusedBad, changeCode}
+use Rattle.scheme.specs.Changes.{changeCard, changeTable}
 use Rattle.scheme.proofs.TokenLaws.{length-worked}
 use Rattle.scheme.proofs.RecordLaws.{token-back, record-long}
 use Rattle.scheme.proofs.LimitLaws.{Limits, card-limits}
@@ -183,9 +184,9 @@ module _ (P : Primitives) where
   blocks-fit master c table (batch items) u = (omega arith, card-limits c (u .order .fits) .nmost)
 
   -- an accepted change
-  module _ (master card table : List ℕ) (edit : Edit) (ok : changeCode P master card table edit ≡ 0) where
+  module _ (master card table : List ℕ) (edit : Edit) (totals : List ℕ) (ok : changeCode P master card table edit totals ≡ 0) where
     has : Changed P master (readCard card) table edit
-    has = change-has P master card table edit ok
+    has = change-has P master card table edit totals ok
 
     limits : Limits ((readCard card) .B) ((readCard card) .d) ((readCard card) .r) ((readCard card) .t) ((readCard card) .n) ((readCard card) .ctr) ((readCard card) .next)
         ((readCard card) .open′)
@@ -203,26 +204,26 @@ module _ (P : Primitives) where
     was-inside i h l = some-there (inside master (readCard card) table i) (open-before i h (omega arith))
 
     after : Resealed master (readCard card) (workOf (readCard card) edit) ((readCard card) .t) ((readCard card) .t + 1 - (readCard card) .next) ((readCard card) .next) table
-        (changeTable P master card table edit)
+        (changeTable P master card table edit totals)
     unfolding changeTable
     after =
         let c = readCard card in
         rw ok (resealed master c (workOf c edit) (c .t) (c .t + 1 - c .next) (c .next) table (limits .next1) (omega (arith, limits .nextmost)) (has .long) open-before)
 
-    pub table-long : length (changeTable P master card table edit) ≡ (readCard card) .t * 63
+    pub table-long : length (changeTable P master card table edit totals) ≡ (readCard card) .t * 63
     table-long = after .long
 
     -- "Spent records keep their bytes"
-    pub spent-kept : take (((readCard card) .next - 1) * 63) (changeTable P master card table edit) ≡ take (((readCard card) .next - 1) * 63) table
+    pub spent-kept : take (((readCard card) .next - 1) * 63) (changeTable P master card table edit totals) ≡ take (((readCard card) .next - 1) * 63) table
     spent-kept = after .front
 
     pub record-changed : (i : ℕ) → (readCard card) .next ≤ i → i ≤ (readCard card) .t
-        → recordAt i (changeTable P master card table edit) ≡ resealedRecord P master (readCard card) (workOf (readCard card) edit) i (recordAt i table)
+        → recordAt i (changeTable P master card table edit totals) ≡ resealedRecord P master (readCard card) (workOf (readCard card) edit) i (recordAt i table)
     record-changed i h l = after .at i h (omega arith)
 
     -- the unused record i opens, one counter up, to what the change makes of its token
     pub now-inside : (i : ℕ) → (readCard card) .next ≤ i → i ≤ (readCard card) .t
-        → tokenIn P (keyK P master ((readCard card) .id)) ((readCard card) .version) ((readCard card) .last + 1) i (recordAt i (changeTable P master card table edit))
+        → tokenIn P (keyK P master ((readCard card) .id)) ((readCard card) .version) ((readCard card) .last + 1) i (recordAt i (changeTable P master card table edit totals))
         ≡ some (made master (readCard card) (workOf (readCard card) edit) i (value (inside master (readCard card) table i)))
     now-inside i h l =
         let c = readCard card in
@@ -230,7 +231,7 @@ module _ (P : Primitives) where
         ∙ resealed-opens master c (workOf c edit) i (recordAt i table)
         (record-63 i (c .t) table (omega (arith, limits .next1)) l (has .long)) (open-before i h (omega arith)) (omega (arith, has .room)) (omega (arith, limits .tmost))
 
-    pub card-changed : readCard (changeCard P master card table edit) ≡ changedCard (readCard card) (blocksAfter (readCard card) edit)
+    pub card-changed : readCard (changeCard P master card table edit totals) ≡ changedCard (readCard card) (blocksAfter (readCard card) edit)
     unfolding changeCard
     card-changed =
         let c = readCard card in
@@ -239,13 +240,13 @@ module _ (P : Primitives) where
         rw ok (order-back (changedCard c n) (changed-order c (has .order) n (fit .0) (fit .1) (has .room)))
 
     -- the card's bytes
-    pub card-written : changeCard P master card table edit ≡ cardBytes (changedCard (readCard card) (blocksAfter (readCard card) edit))
+    pub card-written : changeCard P master card table edit totals ≡ cardBytes (changedCard (readCard card) (blocksAfter (readCard card) edit))
     unfolding changeCard
     card-written = rw ok
 
     -- the token that the change leaves in the unused record i
     pub left : (i : ℕ) (x : List ℕ) → (readCard card) .next ≤ i → i ≤ (readCard card) .t → inside master (readCard card) table i ≡ some x
-        → inside master (readCard (changeCard P master card table edit)) (changeTable P master card table edit) i
+        → inside master (readCard (changeCard P master card table edit totals)) (changeTable P master card table edit totals) i
         ≡ some (made master (readCard card) (workOf (readCard card) edit) i x)
     unfolding changedCard committedCard askedCard
     left i x h l o =

@@ -14,7 +14,8 @@ use Rattle.scheme.specs.Ladder.{first, ifZero}
 use Rattle.scheme.specs.Primitives.{Primitives}
 use Rattle.scheme.specs.Records.{Card, cardBytes, readCard}
 use Rattle.scheme.specs.Judging.{causeNumber, cause, verdictOf, verdict}
-use Rattle.scheme.specs.Calls.{Edit, unusedBad, changeChecks, changeCode, Moment, drawEarly, drawLate, drawCode, judgeChecks, judgeFault, judgeCode}
+use Rattle.scheme.specs.Changes.{Edit, unusedBad, changeChecks, changeCode}
+use Rattle.scheme.specs.Calls.{Moment, drawEarly, drawLate, drawCode, judgeChecks, judgeFault, judgeCode}
 use Rattle.scheme.specs.Asks.{askChecks, askCode, settleChecks, settleCode}
 use Rattle.scheme.specs.Book.{Call, change, ask, commit, drop, draw, judge, Lent, Book, bookCard, callCode, bookTable}
 use Rattle.scheme.proofs.LadderLaws.{Fine, fine-pass, fine-part, fine-end}
@@ -26,29 +27,29 @@ module _ (P : Primitives) (b : Book) (g : Good P b) where
   none-bad : unusedBad P (b .key) (readCard (cardBytes (bookCard b))) (bookTable P b) ≡ 0
   none-bad = ap (λ (c : Card). unusedBad P (b .key) c (bookTable P b)) (back P b g) ∙ sound P b g
 
-  fine-key : (edit : Edit) → Fine (changeCode P (b .key) (cardBytes (bookCard b)) (bookTable P b) edit)
+  fine-key : (edit : Edit) (totals : List ℕ) → Fine (changeCode P (b .key) (cardBytes (bookCard b)) (bookTable P b) edit totals)
   unfolding changeCode
-  fine-key edit =
+  fine-key edit totals =
       rw none-bad
-      (fine-part (changeChecks P (b .key) (cardBytes (bookCard b)) (bookTable P b) edit) _ (late-plain (readCard (cardBytes (bookCard b))) (bookTable P b) edit)
+      (fine-part (changeChecks P (b .key) (cardBytes (bookCard b)) (bookTable P b) edit totals) _ (late-plain (readCard (cardBytes (bookCard b))) (bookTable P b) edit)
       (fine-pass _ _ refl fine-end))
 
-  fine-key-ask : (edit : Edit) (second : List ℕ) → Fine (askCode P (b .key) (cardBytes (bookCard b)) (bookTable P b) second edit)
+  fine-key-ask : (edit : Edit) (second totals : List ℕ) → Fine (askCode P (b .key) (cardBytes (bookCard b)) (bookTable P b) second edit totals)
   unfolding askCode
-  fine-key-ask edit second =
+  fine-key-ask edit second totals =
       rw none-bad
-      (fine-part (askChecks P (b .key) (cardBytes (bookCard b)) (bookTable P b) second edit) _ (late-plain (readCard (cardBytes (bookCard b))) (bookTable P b) edit)
+      (fine-part (askChecks P (b .key) (cardBytes (bookCard b)) (bookTable P b) second edit totals) _ (late-plain (readCard (cardBytes (bookCard b))) (bookTable P b) edit)
       (fine-pass _ _ refl fine-end))
 
   -- one lent a master of another length gives 1
   module _ (master : List ℕ) where
-    fine-other : (edit : Edit) → length master ≢ 32 → Fine (changeCode P master (cardBytes (bookCard b)) (bookTable P b) edit)
+    fine-other : (edit : Edit) (totals : List ℕ) → length master ≢ 32 → Fine (changeCode P master (cardBytes (bookCard b)) (bookTable P b) edit totals)
     unfolding changeCode first
-    fine-other edit h = rw (ne-eqb (length master) 32 h) (omega arith)
+    fine-other edit totals h = rw (ne-eqb (length master) 32 h) (omega arith)
 
-    fine-other-ask : (edit : Edit) (second : List ℕ) → length master ≢ 32 → Fine (askCode P master (cardBytes (bookCard b)) (bookTable P b) second edit)
+    fine-other-ask : (edit : Edit) (second totals : List ℕ) → length master ≢ 32 → Fine (askCode P master (cardBytes (bookCard b)) (bookTable P b) second edit totals)
     unfolding askCode first
-    fine-other-ask edit second h = rw (ne-eqb (length master) 32 h) (omega arith)
+    fine-other-ask edit second totals h = rw (ne-eqb (length master) 32 h) (omega arith)
 
     -- either way
     by-length : (f : List ℕ → ℕ) → (length master ≡ 32 → master ≡ b .key) → Fine (f (b .key)) → (length master ≢ 32 → Fine (f master)) → Fine (f master)
@@ -88,10 +89,11 @@ module _ (P : Primitives) (b : Book) (g : Good P b) where
   fine x k = go (x .call)
     where
       go : (y : Call) → Fine (callCode P (x .master) y (cardBytes (bookCard b)) (bookTable P b))
-      go (change edit) =
-          by-length (x .master) (λ m. changeCode P m (cardBytes (bookCard b)) (bookTable P b) edit) k (fine-key edit) (fine-other (x .master) edit)
-      go (ask edit second) =
-          by-length (x .master) (λ m. askCode P m (cardBytes (bookCard b)) (bookTable P b) second edit) k (fine-key-ask edit second) (fine-other-ask (x .master) edit second)
+      go (change edit totals) =
+          by-length (x .master) (λ m. changeCode P m (cardBytes (bookCard b)) (bookTable P b) edit totals) k (fine-key edit totals) (fine-other (x .master) edit totals)
+      go (ask edit second totals) =
+          by-length (x .master) (λ m. askCode P m (cardBytes (bookCard b)) (bookTable P b) second edit totals) k (fine-key-ask edit second totals)
+          (fine-other-ask (x .master) edit second totals)
       go commit = fine-settle
       go drop = fine-settle
       go (draw message plan now) = fine-draw (x .master) message plan now

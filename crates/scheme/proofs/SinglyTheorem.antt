@@ -23,8 +23,8 @@ use Rattle.scheme.specs.Records.{Card, cardBytes, readCard}
 use Rattle.scheme.specs.Tokens.{Change, replaced, added, addedFrom, drawKey, hashKey, workedDigest}
 use Rattle.scheme.specs.Table.{there, value}
 use Rattle.scheme.specs.Batches.{Item, itemsOf, itemBlock, batchWork}
-use Rattle.scheme.specs.Calls.{Edit, update, delete, append, load, batch, loaded, workOf, blocksAfter, askedCard, committedCard, changedCard, changeCode}
-use Rattle.scheme.specs.Calls.{changeCard, changeTable, loadCode, loadCard, loadTable, batchCode, batchCard, batchTable}
+use Rattle.scheme.specs.Changes.{Edit, update, delete, append, load, batch, loaded, workOf, blocksAfter, askedCard, committedCard, changedCard, changeCode}
+use Rattle.scheme.specs.Changes.{changeCard, changeTable, loadCode, loadCard, loadTable, batchCode, batchCard, batchTable}
 use Rattle.scheme.specs.Book.{answer, change, Lent, Ran, run}
 use Rattle.scheme.proofs.TokenLaws.{worked-append}
 use Rattle.scheme.proofs.LadderLaws.{both}
@@ -34,10 +34,10 @@ use Rattle.scheme.proofs.CallLaws.{change-has}
 use Rattle.scheme.proofs.BatchLaws.{batch-has}
 use Rattle.scheme.proofs.ResealLaws.{spent-kept, table-long, made, inside, was-inside, left, card-changed, card-written}
 
--- changes as calls, each lent the same master
-abbrev pub calls : List ℕ → List Edit → List Lent
-calls master [] = []
-calls master (e ∷ es) = record { master = master; call = change e } ∷ calls master es
+-- changes as calls, each lent the same master and a buffer for totals
+abbrev pub calls : List ℕ → List ℕ → List Edit → List Lent
+calls master totals [] = []
+calls master totals (e ∷ es) = record { master = master; call = change e totals } ∷ calls master totals es
 
 -- every number is 0
 abbrev pub AllAccepted : List ℕ → Type 0
@@ -111,24 +111,24 @@ pub record Alike (P : Primitives) (master card table : List ℕ) (single : Ran) 
   pub oneStep : ((readCard one) .ctr ≡ (readCard card) .last + 1) × ((readCard one) .last ≡ (readCard card) .last + 1)
   pub manySteps : ((readCard (single .card)) .ctr ≡ (readCard card) .last + count) × ((readCard (single .card)) .last ≡ (readCard card) .last + count)
 
-module _ (P : Primitives) (master asked : List ℕ) where
+module _ (P : Primitives) (master totals asked : List ℕ) where
   -- what changes made singly leave
   abbrev ran : List Edit → List ℕ → List ℕ → Ran
-  ran es card table = run P (calls master es) card table asked
+  ran es card table = run P (calls master totals es) card table asked
 
   -- the first of them
   module _ (e : Edit) (es : List Edit) (card table : List ℕ) where
     abbrev card′ : List ℕ
-    card′ = changeCard P master card table e
+    card′ = changeCard P master card table e totals
 
     abbrev table′ : List ℕ
-    table′ = changeTable P master card table e
+    table′ = changeTable P master card table e totals
 
-    first : ran (e ∷ es) card table ≡ answer (changeCode P master card table e) (ran es card′ table′)
+    first : ran (e ∷ es) card table ≡ answer (changeCode P master card table e totals) (ran es card′ table′)
     unfolding run
     first = refl
 
-    accepted : AllAccepted ((ran (e ∷ es) card table) .numbers) → (changeCode P master card table e ≡ 0) × AllAccepted ((ran es card′ table′) .numbers)
+    accepted : AllAccepted ((ran (e ∷ es) card table) .numbers) → (changeCode P master card table e totals ≡ 0) × AllAccepted ((ran es card′ table′) .numbers)
     accepted a = rw first at a
 
   -- the card after all of them
@@ -139,18 +139,18 @@ module _ (P : Primitives) (master asked : List ℕ) where
   last-card (e ∷ es) card table a =
       let ok = accepted e es card table a in
       rw (first e es card table)
-      (last-card es (card′ e es card table) (table′ e es card table) (ok .1) ∙ ap (λ (c : Card). cardAfter c es) (card-changed P master card table e (ok .0)))
+      (last-card es (card′ e es card table) (table′ e es card table) (ok .1) ∙ ap (λ (c : Card). cardAfter c es) (card-changed P master card table e totals (ok .0)))
 
   -- its bytes, where there is one at least
   card-bytes : (e : Edit) (es : List Edit) (card table : List ℕ) → AllAccepted ((ran (e ∷ es) card table) .numbers)
       → (ran (e ∷ es) card table) .card ≡ cardBytes (cardAfter (readCard card) (e ∷ es))
   unfolding cardAfter
-  card-bytes e [] card table a = rw (first e [] card table) (unfold run in card-written P master card table e (accepted e [] card table a .0))
+  card-bytes e [] card table a = rw (first e [] card table) (unfold run in card-written P master card table e totals (accepted e [] card table a .0))
   card-bytes e (f ∷ es) card table a =
       let ok = accepted e (f ∷ es) card table a in
       rw (first e (f ∷ es) card table)
       (card-bytes f es (card′ e es card table) (table′ e es card table) (ok .1)
-      ∙ ap (λ (c : Card). cardBytes (cardAfter c (f ∷ es))) (card-changed P master card table e (ok .0)))
+      ∙ ap (λ (c : Card). cardBytes (cardAfter c (f ∷ es))) (card-changed P master card table e totals (ok .0)))
 
   -- the table after all of them: spent records and length
   last-table : (es : List Edit) (card table : List ℕ) → length table ≡ (readCard card) .t * 63 → AllAccepted ((ran es card table) .numbers)
@@ -160,10 +160,10 @@ module _ (P : Primitives) (master asked : List ℕ) where
   last-table [] card table l a = unfold run in (refl, l)
   last-table (e ∷ es) card table l a =
       let ok = accepted e es card table a in
-      let z = card-changed P master card table e (ok .0) in
-      let long : length (table′ e es card table) ≡ (readCard (card′ e es card table)) .t * 63 = rw z (table-long P master card table e (ok .0)) in
+      let z = card-changed P master card table e totals (ok .0) in
+      let long : length (table′ e es card table) ≡ (readCard (card′ e es card table)) .t * 63 = rw z (table-long P master card table e totals (ok .0)) in
       let ih = rw z at (last-table es (card′ e es card table) (table′ e es card table) long (ok .1)) in
-      rw (first e es card table) (ih .0 ∙ spent-kept P master card table e (ok .0), ih .1)
+      rw (first e es card table) (ih .0 ∙ spent-kept P master card table e totals (ok .0), ih .1)
 
   -- the token in the unused record i
   module _ (i : ℕ) where
@@ -175,10 +175,10 @@ module _ (P : Primitives) (master asked : List ℕ) where
     last-token (e ∷ es) card table x h l o a =
         let c = readCard card in
         let ok = accepted e es card table a in
-        let z = card-changed P master card table e (ok .0) in
+        let z = card-changed P master card table e totals (ok .0) in
         let h′ : (readCard (card′ e es card table)) .next ≤ i = rw z h in
         let l′ : i ≤ (readCard (card′ e es card table)) .t = rw z l in
-        let o′ = left P master card table e (ok .0) i x h l o in
+        let o′ = left P master card table e totals (ok .0) i x h l o in
         let ih = last-token es (card′ e es card table) (table′ e es card table) (made P master c (workOf c e) i x) h′ l′ o′ (ok .1) in
         rw (first e es card table)
         (rw z at ih
@@ -186,13 +186,13 @@ module _ (P : Primitives) (master asked : List ℕ) where
         (sym (worked-append P (drawKey P master (c .id) i) (hashKey P master (c .id) i) (c .d) (c .r) (workOf c e) (workSingly (changedCard c (blocksAfter c e)) es) x)))
 
   -- a change that makes the block changes of several, and leaves as many blocks
-  module _ (card table : List ℕ) (one e : Edit) (es : List Edit) (ok : changeCode P master card table one ≡ 0)
+  module _ (card table : List ℕ) (one e : Edit) (es : List Edit) (ok : changeCode P master card table one totals ≡ 0)
       (a : AllAccepted ((ran (e ∷ es) card table) .numbers))
       (same : workOf (readCard card) one ≡ workSingly (readCard card) (e ∷ es))
       (count : blocksAfter (readCard card) one ≡ (cardAfter (readCard card) (e ∷ es)) .n) where
-    after : changeCard P master card table one ≡ cardBytes (atCounter (readCard card) ((readCard card) .id) ((cardAfter (readCard card) (e ∷ es)) .n) ((readCard card) .last + 1))
+    after : changeCard P master card table one totals ≡ cardBytes (atCounter (readCard card) ((readCard card) .id) ((cardAfter (readCard card) (e ∷ es)) .n) ((readCard card) .last + 1))
     unfolding atCounter changedCard committedCard askedCard
-    after = card-written P master card table one ok ∙ ap (λ (n : ℕ). cardBytes (changedCard (readCard card) n)) count
+    after = card-written P master card table one totals ok ∙ ap (λ (n : ℕ). cardBytes (changedCard (readCard card) n)) count
 
     singly : (ran (e ∷ es) card table) .card
         ≡ cardBytes (atCounter (readCard card) ((readCard card) .id) ((cardAfter (readCard card) (e ∷ es)) .n) ((readCard card) .last + length (e ∷ es)))
@@ -200,19 +200,19 @@ module _ (P : Primitives) (master asked : List ℕ) where
 
     -- the token that either leaves
     token-left : (i : ℕ) → (readCard card) .next ≤ i → i ≤ (readCard card) .t
-        → inside P master (readCard (changeCard P master card table one)) (changeTable P master card table one) i
+        → inside P master (readCard (changeCard P master card table one totals)) (changeTable P master card table one totals) i
         ≡ some (made P master (readCard card) (workSingly (readCard card) (e ∷ es)) i (value (inside P master (readCard card) table i)))
     token-left i h l =
         let c = readCard card in
         let x = value (inside P master c table i) in
-        left P master card table one ok i x h l (was-inside P master card table one ok i h l)
+        left P master card table one totals ok i x h l (was-inside P master card table one totals ok i h l)
         ∙ ap (λ (work : List (ℕ × Change)). some (made P master c work i x)) same
 
     -- what they leave is the same
-    like : Alike P master card table (ran (e ∷ es) card table) (changeCard P master card table one) (changeTable P master card table one) (length (e ∷ es))
+    like : Alike P master card table (ran (e ∷ es) card table) (changeCard P master card table one totals) (changeTable P master card table one totals) (length (e ∷ es))
     like =
         let c = readCard card in
-        let has = change-has P master card table one ok in
+        let has = change-has P master card table one totals ok in
         let n = (cardAfter c (e ∷ es)) .n in
         let sides = apart c n (c .last + 1) (c .last + length (e ∷ es)) (has .order .id8) in
         let tables = last-table (e ∷ es) card table (has .long) a in
@@ -220,20 +220,20 @@ module _ (P : Primitives) (master asked : List ℕ) where
           opens = λ i h l. rw (token-left i h l);
           tokens = λ i h l.
               token-left i h l
-              ∙ sym (last-token i (e ∷ es) card table (value (inside P master c table i)) h l (was-inside P master card table one ok i h l) a);
-          long = table-long P master card table one ok ∙ sym (tables .1);
-          spent = spent-kept P master card table one ok ∙ sym (tables .0);
+              ∙ sym (last-token i (e ∷ es) card table (value (inside P master c table i)) h l (was-inside P master card table one totals ok i h l) a);
+          long = table-long P master card table one totals ok ∙ sym (tables .1);
+          spent = spent-kept P master card table one totals ok ∙ sym (tables .0);
           front = ap (take 27) after ∙ sides .0 ∙ sym (ap (take 27) singly);
           between = ap (part 35 8) after ∙ sides .1 ∙ sym (ap (part 35 8) singly);
           behind = ap (drop 51) after ∙ sides .2 ∙ sym (ap (drop 51) singly);
-          oneStep = rw (card-changed P master card table one ok) (unfold changedCard committedCard askedCard in (refl, refl));
+          oneStep = rw (card-changed P master card table one totals ok) (unfold changedCard committedCard askedCard in (refl, refl));
           manySteps = rw (last-card (e ∷ es) card table a, stepped e es c) (unfold atCounter in (refl, refl));
         }
 
-  pub alike : (card table : List ℕ) (one : Edit) (es : List Edit) → 1 ≤ length es → changeCode P master card table one ≡ 0
+  pub alike : (card table : List ℕ) (one : Edit) (es : List Edit) → 1 ≤ length es → changeCode P master card table one totals ≡ 0
       → AllAccepted ((ran es card table) .numbers) → workOf (readCard card) one ≡ workSingly (readCard card) es
       → blocksAfter (readCard card) one ≡ (cardAfter (readCard card) es) .n
-      → Alike P master card table (ran es card table) (changeCard P master card table one) (changeTable P master card table one) (length es)
+      → Alike P master card table (ran es card table) (changeCard P master card table one totals) (changeTable P master card table one totals) (length es)
   alike card table one [] h ok a same count = absurd (omega arith)
   alike card table one (e ∷ es) h ok a same count = like card table one e es ok a same count
 
@@ -261,7 +261,7 @@ append-many (x ∷ xs) = ap suc (append-many xs)
 abbrev pub blocksIn : Card → List ℕ → List (List ℕ)
 blocksIn c blocks = pieces (c .B) (length blocks / c .B) blocks
 
-module _ (P : Primitives) (master card table asked blocks : List ℕ) where
+module _ (P : Primitives) (master card table asked blocks totals : List ℕ) where
   abbrev news : List (List ℕ)
   news = blocksIn (readCard card) blocks
 
@@ -269,7 +269,7 @@ module _ (P : Primitives) (master card table asked blocks : List ℕ) where
   many = pieces-length ((readCard card) .B) (length blocks / (readCard card) .B) blocks
 
   -- an accepted load has a block at least
-  not-empty : loadCode P master card table blocks ≡ 0 → 1 ≤ length news
+  not-empty : loadCode P master card table blocks totals ≡ 0 → 1 ≤ length news
   not-empty ok = go (length news) refl
     where
       B : ℕ
@@ -277,19 +277,19 @@ module _ (P : Primitives) (master card table asked blocks : List ℕ) where
 
       go : (k : ℕ) → length news ≡ k → 1 ≤ k
       go zero e =
-          let q = both (ltb 0 (length blocks)) (eqb (length blocks % B) 0) (change-has P master card table (load blocks) ok .placed 12) in
+          let q = both (ltb 0 (length blocks)) (eqb (length blocks % B) 0) (change-has P master card table (load blocks) totals ok .placed 12) in
           let none : length blocks / B * B ≡ 0 = ap (λ (k : ℕ). k * B) (sym many ∙ e) ∙ zero-mul B in
           omega (arith, ltb-true 0 (length blocks) (q .0), eqb-true (length blocks % B) 0 (q .1), div-add-mod' (length blocks) B)
       go (suc k) e = omega arith
 
   -- "the table's tokens after it are those after the same blocks appended one by one; only counter and sealing differ", where all are accepted
-  pub load-singly : loadCode P master card table blocks ≡ 0 → AllAccepted ((run P (calls master (appends news)) card table asked) .numbers)
-      → Alike P master card table (run P (calls master (appends news)) card table asked) (loadCard P master card table blocks) (loadTable P master card table blocks) (length news)
+  pub load-singly : loadCode P master card table blocks totals ≡ 0 → AllAccepted ((run P (calls master totals (appends news)) card table asked) .numbers)
+      → Alike P master card table (run P (calls master totals (appends news)) card table asked) (loadCard P master card table blocks totals) (loadTable P master card table blocks totals) (length news)
   load-singly ok a =
       let c = readCard card in
       let n = append-many news in
       rw (← n)
-      (alike P master asked card table (load blocks) (appends news) (omega (arith, not-empty ok)) ok a (unfold loaded in append-work c news)
+      (alike P master totals asked card table (load blocks) (appends news) (omega (arith, not-empty ok)) ok a (unfold loaded in append-work c news)
       (ap (λ (k : ℕ). c .n + k) (sym many) ∙ append-count c news))
 
 -- an item as a change of its own: "1 update, 2 delete"
@@ -335,14 +335,14 @@ corrected-many [] = refl
 corrected-many (x ∷ xs) = ap suc (corrected-many xs)
 
 -- "The tokens inside equal those after the same changes made singly, where all those are accepted; only the counter and sealing differ"
-pub batch-singly : (P : Primitives) (master card table asked items : List ℕ) → batchCode P master card table items ≡ 0
-    → AllAccepted ((run P (calls master (corrections (itemsOf (readCard card) items))) card table asked) .numbers)
-    → Alike P master card table (run P (calls master (corrections (itemsOf (readCard card) items))) card table asked)
-    (batchCard P master card table items) (batchTable P master card table items) (length (itemsOf (readCard card) items))
-batch-singly P master card table asked items ok a =
+pub batch-singly : (P : Primitives) (master card table asked items totals : List ℕ) → batchCode P master card table items totals ≡ 0
+    → AllAccepted ((run P (calls master totals (corrections (itemsOf (readCard card) items))) card table asked) .numbers)
+    → Alike P master card table (run P (calls master totals (corrections (itemsOf (readCard card) items))) card table asked)
+    (batchCard P master card table items totals) (batchTable P master card table items totals) (length (itemsOf (readCard card) items))
+batch-singly P master card table asked items totals ok a =
     let c = readCard card in
     let xs = itemsOf c items in
     let n = corrected-many xs in
-    let fit = batch-has c items (change-has P master card table (batch items) ok .placed 14) in
+    let fit = batch-has c items (change-has P master card table (batch items) totals ok .placed 14) in
     rw (← n)
-    (alike P master asked card table (batch items) (corrections xs) (omega (arith, fit .some)) ok a (corrected-work c xs) (corrected-count c xs))
+    (alike P master totals asked card table (batch items) (corrections xs) (omega (arith, fit .some)) ok a (corrected-work c xs) (corrected-count c xs))

@@ -20,40 +20,43 @@ use Rattle.scheme.specs.Tokens.{columnHash, drawnRow, positionOf, rowDig
 use Rattle.scheme.specs.Table.{sealedRecord, bodyIn, tokenIn, firstBad, resealedRecord, reseal}
 use Rattle.scheme.specs.Judging.{causeNumber, verdictOf, cause, verdict}
 use Rattle.scheme.specs.Batches.{itemSize, readItem, itemsFrom, itemsOf, kindsFit, risingFrom, rising, batchFits, itemMarksFit, numbersFit, itemBlock, batchWork}
-use Rattle.scheme.specs.Calls.{update, delete, append, load, batch, loaded, askedCard, committedCard, droppedCard, changedCard, turnedCard, setUpCode, setUpCard}
-use Rattle.scheme.specs.Calls.{setUpTable, unusedBad, changeCode, changeCard, changeTable, drawCode, drawCard, judgeFault, judgeCode, judgeCard}
+use Rattle.scheme.specs.Changes.{update, delete, append, load, batch, loaded, askedCard, committedCard, droppedCard, changedCard, unusedBad, changeCode, changeCard}
+use Rattle.scheme.specs.Changes.{changeTable}
+use Rattle.scheme.specs.Calls.{turnedCard, setUpCode, setUpCard, setUpTable, drawCode, drawCard, judgeFault, judgeCode, judgeCard}
 use Rattle.scheme.specs.Asks.{askCode, askCard, askSecond, settleCode, commitCard, dropCard}
 use Rattle.scheme.specs.Book.{Call, change, ask, commit, draw, judge, Lent, Ran, run, started, bookCard, withAsk, committed, dropped, withBlocks, withTurn}
 use Rattle.scheme.specs.Book.{freshToken, freshRecord, bookTable, bookFault, bookAfter, Honest, corrected}
 use Rattle.scheme.proofs.SinglyTheorem.{calls}
-use Rattle.scheme.proofs.Computed.{standIn, key, id, item, markedItem, always, never, saturday, blank}
+use Rattle.scheme.proofs.Computed.{standIn, key, id, item, markedItem, sums, always, never, saturday, blank}
 
 -- lent the key
 abbrev lent : Call → Lent
 lent x = record { master = key; call = x }
 
--- after a set-up in version 3 with B 1, d 2, r 1, t 1: judge with nothing open; update block 0; update by a block of two bytes; update with a master of 31 bytes;
--- update, append and delete; delete block 4; load nothing; load two blocks; a batch of no bytes; update block 2 and delete block 4 in a batch; ask an append with a
--- second table of 62 bytes; ask an update; append and draw while it is pending; commit; commit again; ask a delete; drop it; drop again; draw to a buffer of 90
--- bytes; draw outside every window; draw; draw and append while a token is open; judge a reply of no bytes; "t 1, one draw judged, draw"; append with no token left
+-- after a set-up in version 3 with B 1, d 2, r 1, t 1: judge with nothing open; update block 0; update by a block of two bytes; update with a master of 31 bytes, and
+-- with 15 bytes for totals; update, append and delete; delete block 4; load nothing; load two blocks; a batch of no bytes; update block 2 and delete block 4 in a
+-- batch; ask an append with a second table of 62 bytes; ask an update; append and draw while it is pending; commit; commit again; ask a delete; drop it; drop again;
+-- draw to a buffer of 90 bytes; draw outside every window; draw; draw and append while a token is open; judge a reply of no bytes; "t 1, one draw judged, draw";
+-- append with no token left
 abbrev weekCalls : List Lent
 weekCalls =
-    lent (judge []) ∷ lent (change (update 0 (5 ∷ []) (0 ∷ []) (9 ∷ []))) ∷ lent (change (update 1 (5 ∷ []) (0 ∷ []) (9 ∷ 9 ∷ [])))
-    ∷ record { master = replicate 31 7; call = change (update 1 (5 ∷ []) (0 ∷ []) (9 ∷ [])) }
-    ∷ lent (change (update 1 (5 ∷ []) (0 ∷ []) (9 ∷ []))) ∷ lent (change (append (8 ∷ []))) ∷ lent (change (delete 3 (8 ∷ []) (0 ∷ []))) ∷ lent (change (delete 4 (8 ∷ []) (0 ∷ [])))
-    ∷ lent (change (load [])) ∷ lent (change (load (3 ∷ 4 ∷ [])))
-    ∷ lent (change (batch [])) ∷ lent (change (batch (markedItem 1 2 6 0 7 ++ markedItem 2 4 3 0 9)))
-    ∷ lent (ask (append (2 ∷ [])) (replicate 62 0)) ∷ lent (ask (update 5 (4 ∷ []) (0 ∷ []) (6 ∷ [])) (replicate 63 0)) ∷ lent (change (append (2 ∷ [])))
-    ∷ lent (draw blank always saturday) ∷ lent commit ∷ lent commit ∷ lent (ask (delete 1 (9 ∷ []) (0 ∷ [])) (replicate 63 0)) ∷ lent Call.drop ∷ lent Call.drop
-    ∷ lent (draw (replicate 90 0) always saturday) ∷ lent (draw blank never saturday) ∷ lent (draw blank always saturday) ∷ lent (draw blank always saturday) ∷ lent (change (append (8 ∷ []))) ∷ lent (judge []) ∷ lent (draw blank always saturday)
-    ∷ lent (change (append (3 ∷ []))) ∷ []
+    lent (judge []) ∷ lent (change (update 0 (5 ∷ []) (0 ∷ []) (9 ∷ [])) sums) ∷ lent (change (update 1 (5 ∷ []) (0 ∷ []) (9 ∷ 9 ∷ [])) sums)
+    ∷ record { master = replicate 31 7; call = change (update 1 (5 ∷ []) (0 ∷ []) (9 ∷ [])) sums }
+    ∷ lent (change (update 1 (5 ∷ []) (0 ∷ []) (9 ∷ [])) (replicate 15 0))
+    ∷ lent (change (update 1 (5 ∷ []) (0 ∷ []) (9 ∷ [])) sums) ∷ lent (change (append (8 ∷ [])) sums) ∷ lent (change (delete 3 (8 ∷ []) (0 ∷ [])) sums) ∷ lent (change (delete 4 (8 ∷ []) (0 ∷ [])) sums)
+    ∷ lent (change (load []) sums) ∷ lent (change (load (3 ∷ 4 ∷ [])) sums)
+    ∷ lent (change (batch []) sums) ∷ lent (change (batch (markedItem 1 2 6 0 7 ++ markedItem 2 4 3 0 9)) sums)
+    ∷ lent (ask (append (2 ∷ [])) (replicate 62 0) sums) ∷ lent (ask (update 5 (4 ∷ []) (0 ∷ []) (6 ∷ [])) (replicate 63 0) sums) ∷ lent (change (append (2 ∷ [])) sums)
+    ∷ lent (draw blank always saturday) ∷ lent commit ∷ lent commit ∷ lent (ask (delete 1 (9 ∷ []) (0 ∷ [])) (replicate 63 0) sums) ∷ lent Call.drop ∷ lent Call.drop
+    ∷ lent (draw (replicate 90 0) always saturday) ∷ lent (draw blank never saturday) ∷ lent (draw blank always saturday) ∷ lent (draw blank always saturday) ∷ lent (change (append (8 ∷ [])) sums) ∷ lent (judge []) ∷ lent (draw blank always saturday)
+    ∷ lent (change (append (3 ∷ [])) sums) ∷ []
 
 pub week : _≡_ {A = Ran}
     (run standIn weekCalls
-    (setUpCard standIn key id 3 1 2 1 1 2 (5 ∷ 6 ∷ []) (replicate 63 0) (replicate 63 0))
-    (setUpTable standIn key id 3 1 2 1 1 2 (5 ∷ 6 ∷ []) (replicate 63 0) (replicate 63 0)) [])
+    (setUpCard standIn key id 3 1 2 1 1 2 (5 ∷ 6 ∷ []) (replicate 63 0) (replicate 63 0) sums)
+    (setUpTable standIn key id 3 1 2 1 1 2 (5 ∷ 6 ∷ []) (replicate 63 0) (replicate 63 0) sums) [])
     (record {
-      numbers = 9 ∷ 4 ∷ 1 ∷ 1 ∷ 0 ∷ 0 ∷ 0 ∷ 4 ∷ 12 ∷ 0 ∷ 14 ∷ 0 ∷ 1 ∷ 0 ∷ 18 ∷ 18 ∷ 0 ∷ 19 ∷ 0 ∷ 0 ∷ 19 ∷ 1 ∷ 17 ∷ 0 ∷ 8 ∷ 8 ∷ 11 ∷ 6 ∷ 0 ∷ [];
+      numbers = 9 ∷ 4 ∷ 1 ∷ 1 ∷ 1 ∷ 0 ∷ 0 ∷ 0 ∷ 4 ∷ 12 ∷ 0 ∷ 14 ∷ 0 ∷ 1 ∷ 0 ∷ 18 ∷ 18 ∷ 0 ∷ 19 ∷ 0 ∷ 0 ∷ 19 ∷ 1 ∷ 17 ∷ 0 ∷ 8 ∷ 8 ∷ 11 ∷ 6 ∷ 0 ∷ [];
       card =
           0 ∷ 61 ∷ 3 ∷ 1 ∷ 2 ∷ 3 ∷ 4 ∷ 5 ∷ 6 ∷ 7 ∷ 8 ∷ 0 ∷ 1 ∷ 0 ∷ 0 ∷ 0 ∷ 2 ∷ 0 ∷ 1 ∷ 0 ∷ 0 ∷ 0 ∷ 1 ∷ 0 ∷ 0 ∷ 0 ∷ 6 ∷ 0 ∷ 0 ∷ 0 ∷ 0 ∷ 0 ∷ 0 ∷ 0 ∷ 8
           ∷ 0 ∷ 0 ∷ 0 ∷ 2 ∷ 0 ∷ 0 ∷ 0 ∷ 0 ∷ 0 ∷ 0 ∷ 0 ∷ 0 ∷ 0 ∷ 0 ∷ 0 ∷ 8 ∷ 0 ∷ 0 ∷ 0 ∷ 0 ∷ 0 ∷ 0 ∷ 0 ∷ 0 ∷ 0 ∷ 0 ∷ 0 ∷ 0 ∷ [];
@@ -67,7 +70,7 @@ unfolding leap monthDays timeFits yearDays daysOfYears daysOfMonths dayNumber we
 week = refl
 
 -- the list theorem speaks of this list
-pub week-honest : (setUpCode standIn key id 3 1 2 1 1 2 (5 ∷ 6 ∷ []) (replicate 63 0) (replicate 63 0) ≡ 0) × Honest standIn weekCalls (started key id 3 1 2 1 1 2 (5 ∷ 6 ∷ []))
+pub week-honest : (setUpCode standIn key id 3 1 2 1 1 2 (5 ∷ 6 ∷ []) (replicate 63 0) (replicate 63 0) sums ≡ 0) × Honest standIn weekCalls (started key id 3 1 2 1 1 2 (5 ∷ 6 ∷ []))
 unfolding leap monthDays timeFits yearDays daysOfYears daysOfMonths dayNumber weekday startOf endOf allBelow planFits own over allowed allowedAt be le ofBe ofLe put same xors first joined pieces xorBelow recordsFrom cardBytes readCard shapeFits tokenFits blocksFit asksFit cardFits cardLength cardSized cardHead headFits headKnown versionFits marksIn live deleted alike marksFit clearBytes nonceBytes
     recordAt rowOf columnOf blockIn columnsOf blockAt indexOf keyW keyZ keyK drawKey hashKey blockHash columnHash drawnRow positionOf rowDigest digest token addedFrom
     loaded itemSize readItem itemsFrom itemsOf kindsFit risingFrom rising batchFits itemMarksFit numbersFit itemBlock batchWork mixed changedDigest workedDigest sealedRecord bodyIn tokenIn firstBad resealedRecord reseal causeNumber verdictOf cause verdict changedCard committedCard askedCard turnedCard
@@ -76,14 +79,14 @@ unfolding leap monthDays timeFits yearDays daysOfYears daysOfMonths dayNumber we
     freshToken freshRecord bookTable bookFault bookAfter corrected
 week-honest =
     let own : length key ≡ 32 → key ≡ key = λ l. refl in
-    (refl, (own, λ e. tt, (own, λ e. absurd (omega arith), (own, λ e. absurd (omega arith), (λ l. absurd (omega arith), λ e. absurd (omega arith), (own, λ e. refl, (own, λ e. tt, (own, λ e. refl, (own, λ e. absurd (omega arith), (own, λ e. tt, (own, λ e. tt, (own, λ e. tt, (own, λ e. (refl, (refl, tt)), (own, λ e. tt, (own, λ e. refl, (own, λ e. tt, (own, λ e. tt, (own, λ e. tt, (own, λ e. tt, (own, λ e. refl, (own, λ e. tt, (own, λ e. tt, (own, λ e. tt, (own, λ e. tt, (own, λ e. tt, (own, λ e. tt, (own, λ e. tt, (own, λ e. tt, (own, λ e. tt, (own, λ e. tt, tt))))))))))))))))))))))))))))))
+    (refl, (own, λ e. tt, (own, λ e. absurd (omega arith), (own, λ e. absurd (omega arith), (λ l. absurd (omega arith), λ e. absurd (omega arith), (own, λ e. absurd (omega arith), (own, λ e. refl, (own, λ e. tt, (own, λ e. refl, (own, λ e. absurd (omega arith), (own, λ e. tt, (own, λ e. tt, (own, λ e. tt, (own, λ e. (refl, (refl, tt)), (own, λ e. tt, (own, λ e. refl, (own, λ e. tt, (own, λ e. tt, (own, λ e. tt, (own, λ e. tt, (own, λ e. refl, (own, λ e. tt, (own, λ e. tt, (own, λ e. tt, (own, λ e. tt, (own, λ e. tt, (own, λ e. tt, (own, λ e. tt, (own, λ e. tt, (own, λ e. tt, (own, λ e. tt, tt)))))))))))))))))))))))))))))))
 
 -- what calls leave after a set-up in a version with B 1, d 5, r 4, t 1 and the one block 5
 abbrev monthOf : ℕ → List Lent → Ran
 monthOf v xs =
     run standIn xs
-    (setUpCard standIn key id v 1 5 4 1 1 (5 ∷ []) (replicate 43 0) (replicate 63 0))
-    (setUpTable standIn key id v 1 5 4 1 1 (5 ∷ []) (replicate 43 0) (replicate 63 0)) []
+    (setUpCard standIn key id v 1 5 4 1 1 (5 ∷ []) (replicate 43 0) (replicate 63 0) sums)
+    (setUpTable standIn key id v 1 5 4 1 1 (5 ∷ []) (replicate 43 0) (replicate 63 0) sums) []
 
 -- the card and the table of that file with its contents at a counter
 abbrev after : ℕ → List ℕ → ℕ → List (List ℕ) → Ran
@@ -96,8 +99,8 @@ after v numbers ctr blocks = record {
 abbrev six : List (List ℕ)
 six = (5 ∷ []) ∷ (6 ∷ []) ∷ (7 ∷ []) ∷ (8 ∷ []) ∷ (9 ∷ []) ∷ (3 ∷ []) ∷ []
 
-pub month : (monthOf 1 (calls key (load (6 ∷ 7 ∷ 8 ∷ 9 ∷ 3 ∷ []) ∷ [])) ≡ after 1 (0 ∷ []) 1 six)
-    × (monthOf 1 (calls key (append (6 ∷ []) ∷ append (7 ∷ []) ∷ append (8 ∷ []) ∷ append (9 ∷ []) ∷ append (3 ∷ []) ∷ [])) ≡ after 1 (0 ∷ 0 ∷ 0 ∷ 0 ∷ 0 ∷ []) 5 six)
+pub month : (monthOf 1 (calls key sums (load (6 ∷ 7 ∷ 8 ∷ 9 ∷ 3 ∷ []) ∷ [])) ≡ after 1 (0 ∷ []) 1 six)
+    × (monthOf 1 (calls key sums (append (6 ∷ []) ∷ append (7 ∷ []) ∷ append (8 ∷ []) ∷ append (9 ∷ []) ∷ append (3 ∷ []) ∷ [])) ≡ after 1 (0 ∷ 0 ∷ 0 ∷ 0 ∷ 0 ∷ []) 5 six)
 unfolding run be le ofBe ofLe put same xors first joined pieces xorBelow recordsFrom cardBytes readCard shapeFits tokenFits blocksFit asksFit cardFits cardLength cardSized cardHead headFits headKnown versionFits marksIn live deleted alike marksFit clearBytes
     nonceBytes recordAt rowOf columnOf blockIn columnsOf blockAt indexOf keyW keyZ keyK drawKey hashKey blockHash columnHash drawnRow positionOf rowDigest digest token
     addedFrom loaded itemSize readItem itemsFrom itemsOf kindsFit risingFrom rising batchFits itemMarksFit numbersFit itemBlock batchWork mixed changedDigest workedDigest sealedRecord
@@ -110,11 +113,11 @@ mended = (5 ∷ []) ∷ (4 ∷ []) ∷ (7 ∷ []) ∷ (8 ∷ []) ∷ (0 ∷ []) 
 abbrev mendedTwo : List (List ℕ)
 mendedTwo = (0 ∷ 5 ∷ []) ∷ (0 ∷ 4 ∷ []) ∷ (0 ∷ 7 ∷ []) ∷ (0 ∷ 8 ∷ []) ∷ (1 ∷ 0 ∷ []) ∷ (0 ∷ 1 ∷ []) ∷ []
 
-pub morning : (monthOf 1 (calls key (load (6 ∷ 7 ∷ 8 ∷ 9 ∷ 3 ∷ []) ∷ batch (item 1 2 6 4 ++ item 2 5 9 8 ++ item 1 6 3 1) ∷ [])) ≡ after 1 (0 ∷ 0 ∷ []) 2 mended)
-    × (monthOf 1 (calls key (load (6 ∷ 7 ∷ 8 ∷ 9 ∷ 3 ∷ []) ∷ update 2 (6 ∷ []) [] (4 ∷ []) ∷ delete 5 (9 ∷ []) [] ∷ update 6 (3 ∷ []) [] (1 ∷ []) ∷ []))
+pub morning : (monthOf 1 (calls key sums (load (6 ∷ 7 ∷ 8 ∷ 9 ∷ 3 ∷ []) ∷ batch (item 1 2 6 4 ++ item 2 5 9 8 ++ item 1 6 3 1) ∷ [])) ≡ after 1 (0 ∷ 0 ∷ []) 2 mended)
+    × (monthOf 1 (calls key sums (load (6 ∷ 7 ∷ 8 ∷ 9 ∷ 3 ∷ []) ∷ update 2 (6 ∷ []) [] (4 ∷ []) ∷ delete 5 (9 ∷ []) [] ∷ update 6 (3 ∷ []) [] (1 ∷ []) ∷ []))
     ≡ after 1 (0 ∷ 0 ∷ 0 ∷ 0 ∷ []) 4 mended)
-    × (monthOf 2 (calls key (load (6 ∷ 7 ∷ 8 ∷ 9 ∷ 3 ∷ []) ∷ batch (markedItem 1 2 6 0 4 ++ markedItem 2 5 9 0 8 ++ markedItem 1 6 3 0 1) ∷ [])) ≡ after 2 (0 ∷ 0 ∷ []) 2 mendedTwo)
-    × (monthOf 2 (calls key (load (6 ∷ 7 ∷ 8 ∷ 9 ∷ 3 ∷ []) ∷ update 2 (6 ∷ []) (0 ∷ []) (4 ∷ []) ∷ delete 5 (9 ∷ []) (0 ∷ []) ∷ update 6 (3 ∷ []) (0 ∷ []) (1 ∷ []) ∷ []))
+    × (monthOf 2 (calls key sums (load (6 ∷ 7 ∷ 8 ∷ 9 ∷ 3 ∷ []) ∷ batch (markedItem 1 2 6 0 4 ++ markedItem 2 5 9 0 8 ++ markedItem 1 6 3 0 1) ∷ [])) ≡ after 2 (0 ∷ 0 ∷ []) 2 mendedTwo)
+    × (monthOf 2 (calls key sums (load (6 ∷ 7 ∷ 8 ∷ 9 ∷ 3 ∷ []) ∷ update 2 (6 ∷ []) (0 ∷ []) (4 ∷ []) ∷ delete 5 (9 ∷ []) (0 ∷ []) ∷ update 6 (3 ∷ []) (0 ∷ []) (1 ∷ []) ∷ []))
     ≡ after 2 (0 ∷ 0 ∷ 0 ∷ 0 ∷ []) 4 mendedTwo)
 unfolding run be le ofBe ofLe put same xors first joined pieces xorBelow recordsFrom cardBytes readCard shapeFits tokenFits blocksFit asksFit cardFits cardLength cardSized cardHead headFits headKnown versionFits marksIn live deleted alike marksFit clearBytes
     nonceBytes recordAt rowOf columnOf blockIn columnsOf blockAt indexOf keyW keyZ keyK drawKey hashKey blockHash columnHash drawnRow positionOf rowDigest digest token

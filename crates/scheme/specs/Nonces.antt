@@ -9,7 +9,7 @@ use Rattle.octets.specs.Octets.{ofBe, part}
 use Rattle.scheme.specs.Ladder.{ifZero}
 use Rattle.scheme.specs.Primitives.{Primitives}
 use Rattle.scheme.specs.Records.{Card, readCard, recordAt}
-use Rattle.scheme.specs.Calls.{changeCard, changeTable}
+use Rattle.scheme.specs.Changes.{changeCard, changeTable}
 use Rattle.scheme.specs.Asks.{askCard, askSecond}
 use Rattle.scheme.specs.Book.{Call, change, ask, commit, drop, draw, judge, Lent, callCode, callCard, callTable, callAsked}
 
@@ -39,8 +39,8 @@ Once (p ∷ ps) = Missing p ps × Once ps
 module _ (P : Primitives) where
   -- a change, in one step or asked, takes a counter: the last issued on the card that it leaves; no other call of a list does
   abbrev pub takes : List ℕ → Call → List ℕ → List ℕ → List ℕ
-  takes master (change e) card table = (readCard (changeCard P master card table e)) .last ∷ []
-  takes master (ask e second) card table = (readCard (askCard P master card table second e)) .last ∷ []
+  takes master (change e totals) card table = (readCard (changeCard P master card table e totals)) .last ∷ []
+  takes master (ask e second totals) card table = (readCard (askCard P master card table second e totals)) .last ∷ []
   takes master commit card table = []
   takes master drop card table = []
   takes master (draw message plan now) card table = []
@@ -48,8 +48,8 @@ module _ (P : Primitives) where
 
   -- and seals the unused records of the table that it writes
   abbrev pub writes : List ℕ → Call → List ℕ → List ℕ → List (ℕ × ℕ)
-  writes master (change e) card table = unusedNonces (readCard card) (changeTable P master card table e)
-  writes master (ask e second) card table = unusedNonces (readCard card) (askSecond P master card table second e)
+  writes master (change e totals) card table = unusedNonces (readCard card) (changeTable P master card table e totals)
+  writes master (ask e second totals) card table = unusedNonces (readCard card) (askSecond P master card table second e totals)
   writes master commit card table = []
   writes master drop card table = []
   writes master (draw message plan now) card table = []

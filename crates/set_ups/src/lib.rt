@@ -1,4 +1,4 @@
-// The call that founds a file: set-up, which writes its card and its table. A set-up that is turned away leaves both.
+// The call that founds a file: set-up, which writes its card, its table and the totals of its work. A set-up that is turned away leaves all three.
 // Every function equals a definition of the scheme's Calls at the standard primitives. Nothing is assumed.
 ghost use mathlib.Core.Path.{_≡_};
 ghost use mathlib.Core.Bool.{_&&_};
@@ -8,11 +8,20 @@ ghost use lib.ListN.{length};
 ghost use Rattle.scheme.specs.Calls as S;
 ghost use Rattle.scheme.specs.Lists.{pieces, recordsFrom};
 ghost use Rattle.scheme.specs.Marks.{versionFits, live, alike};
-ghost use Rattle.scheme.specs.Records.{cardLength, shapeFits, tokenFits, blocksFit};
+ghost use Rattle.scheme.specs.Records.{cardLength, cardSized, shapeFits, tokenFits, blocksFit};
 ghost use Rattle.scheme.specs.Table.{sealedRecord};
 ghost use Rattle.scheme.specs.Tokens as T;
+ghost use Rattle.scheme.specs.Totals.{sumFrom, digestTurns, digestHashes};
 ghost use Rattle.standard.specs.Standard.{standard};
 ghost use Rattle.tokens.specs.Keyed.{tokenKey};
+
+// Whether the master, the id, the card and the totals that a set-up is lent have their lengths, the card that of some version.
+fn lent_fits(master: &[u8], id: &[u8], card: &[u8], totals: &[u8]) -> bool
+    ensures { λ r. ⌜ r ≡ (eqb (length (now (master .entry))) 32 && eqb (length (now (id .entry))) 8 && cardSized (now (card .entry)) && eqb (length (now (totals .entry))) 16) ⌝ }
+{
+    let sized = cards::sized(card);
+    (master.len() == 32) & (id.len() == 8) & sized & (totals.len() == 16)
+}
 
 // Whether there is such a version, and the numbers of a set-up are within their limits.
 fn numbers_fit(
@@ -63,17 +72,12 @@ fn set_up_code(
     blocks: &[u8],
     card: &[u8],
     table: &[u8],
+    totals: &[u8],
 ) -> u64
-    ensures { λ r. ⌜ r ≡ S.setUpCode standard (now (master .entry)) (now (id .entry)) version «block_bytes» rows positions tokens «blocks_count» (now (blocks .entry)) (now (card .entry)) (now (table .entry)) ⌝ }
+    ensures { λ r. ⌜ r ≡ S.setUpCode standard (now (master .entry)) (now (id .entry)) version «block_bytes» rows positions tokens «blocks_count» (now (blocks .entry)) (now (card .entry)) (now (table .entry)) (now (totals .entry)) ⌝ }
 {
-    if master.len() != 32 {
-        return 1;
-    }
-    if id.len() != 8 {
-        return 1;
-    }
-    let some = cards::sized(card);
-    if !some {
+    let lent = lent_fits(master, id, card, totals);
+    if !lent {
         return 1;
     }
     let numbers = numbers_fit(version, block_bytes, rows, positions, tokens, blocks_count);
@@ -96,11 +100,12 @@ fn set_up_code(
 }
 
 // Fills the table of a new file: record i holds token i over the blocks, all live, sealed in the card's version at counter 0. Each drawn block of a token
-// is hashed once.
-fn fill_table(keys: tokens::Keys, c: cards::Card, blocks: &[u8], table: &mut [u8])
+// is hashed once. Answers the turns and the hashes that all tokens took.
+fn fill_table(keys: tokens::Keys, c: cards::Card, blocks: &[u8], table: &mut [u8]) -> counts::Totals
     requires { ⌜ (c .version < 256) × (1 ≤ c .rows) × (c .rows ≤ 1048576) × (c .«block_bytes» ≤ 4096) × (c .blocks ≤ 16777216) × (length (now blocks) ≡ c .blocks * c .«block_bytes») ⌝ }
-    requires { ⌜ (c .positions ≤ c .rows) × (c .tokens ≤ 65536) × (length (now table) ≡ c .tokens * 63) ⌝ }
+    requires { ⌜ (c .positions ≤ c .rows) × (c .positions ≤ 512) × (c .tokens ≤ 65536) × (length (now table) ≡ c .tokens * 63) ⌝ }
     ensures { λ _. ⌜ now (table .exit) ≡ recordsFrom (λ i. sealedRecord standard (keys .k) (c .version) 0 i (T.digest standard (tokenKey (keys .w) i) (tokenKey (keys .z) i) (c .rows) (c .positions) (alike (live (c .version)) (pieces (c .«block_bytes») (c .blocks) (now (blocks .entry)))))) (c .tokens) 1 ⌝ }
+    ensures { λ r. ⌜ (r .turns ≡ sumFrom (c .tokens) 1 (λ i. digestTurns standard (tokenKey (keys .w) i) (c .rows) (c .positions))) × (r .hashes ≡ sumFrom (c .tokens) 1 (λ i. digestHashes standard (tokenKey (keys .w) i) (c .rows) (c .positions) (c .blocks))) ⌝ }
 {
     let w = keys.w;
     let z = keys.z;
@@ -109,19 +114,24 @@ fn fill_table(keys: tokens::Keys, c: cards::Card, blocks: &[u8], table: &mut [u8
     let b = digests::Span {
         rows: c.rows,
         size: c.block_bytes,
-        before: 0,
         count: c.blocks,
         mark: marks::marks_in(c.version),
         step: 0,
     };
+    let mut turns: u64 = 0;
+    let mut hashes: u64 = 0;
     let mut i: u64 = 1;
     while i <= c.tokens {
         let draw_key = tokens::token_key(w, counts::Token(i));
         let hash_key = tokens::token_key(z, counts::Token(i));
         let x = digests::digest(draw_key, hash_key, b, c.positions, blocks, &live);
-        seals::seal_token(k, c.version, 0, counts::Token(i), x, table);
+        let token = x.digest;
+        seals::seal_token(k, c.version, 0, counts::Token(i), token, table);
+        turns += x.turns;
+        hashes += x.hashes;
         i += 1;
     }
+    counts::Totals { turns, hashes }
 }
 
 // The eight bytes of a file id.
@@ -134,8 +144,8 @@ fn file_id(id: &[u8]) -> [u8; 8]
     file
 }
 
-// Set-up: writes the card and the table of a new file over the blocks present, and answers 0; a refusal leaves both. Rows beyond them are empty and
-// add nothing.
+// Set-up: writes the card and the table of a new file over the blocks present and the totals of its work, and answers 0; a refusal leaves all three. Rows
+// beyond the blocks are empty and add nothing.
 pub fn set_up(
     master: &[u8],
     id: &[u8],
@@ -148,10 +158,12 @@ pub fn set_up(
     blocks: &[u8],
     card: &mut [u8],
     table: &mut [u8],
+    totals: &mut [u8],
 ) -> u64
-    ensures { λ r. ⌜ r ≡ S.setUpCode standard (now (master .entry)) (now (id .entry)) version «block_bytes» rows positions tokens «blocks_count» (now (blocks .entry)) (now (card .entry)) (now (table .entry)) ⌝ }
-    ensures { λ _. ⌜ now (card .exit) ≡ S.setUpCard standard (now (master .entry)) (now (id .entry)) version «block_bytes» rows positions tokens «blocks_count» (now (blocks .entry)) (now (card .entry)) (now (table .entry)) ⌝ }
-    ensures { λ _. ⌜ now (table .exit) ≡ S.setUpTable standard (now (master .entry)) (now (id .entry)) version «block_bytes» rows positions tokens «blocks_count» (now (blocks .entry)) (now (card .entry)) (now (table .entry)) ⌝ }
+    ensures { λ r. ⌜ r ≡ S.setUpCode standard (now (master .entry)) (now (id .entry)) version «block_bytes» rows positions tokens «blocks_count» (now (blocks .entry)) (now (card .entry)) (now (table .entry)) (now (totals .entry)) ⌝ }
+    ensures { λ _. ⌜ now (card .exit) ≡ S.setUpCard standard (now (master .entry)) (now (id .entry)) version «block_bytes» rows positions tokens «blocks_count» (now (blocks .entry)) (now (card .entry)) (now (table .entry)) (now (totals .entry)) ⌝ }
+    ensures { λ _. ⌜ now (table .exit) ≡ S.setUpTable standard (now (master .entry)) (now (id .entry)) version «block_bytes» rows positions tokens «blocks_count» (now (blocks .entry)) (now (card .entry)) (now (table .entry)) (now (totals .entry)) ⌝ }
+    ensures { λ _. ⌜ now (totals .exit) ≡ S.setUpTotals standard (now (master .entry)) (now (id .entry)) version «block_bytes» rows positions tokens «blocks_count» (now (blocks .entry)) (now (card .entry)) (now (table .entry)) (now (totals .entry)) ⌝ }
 {
     let code = set_up_code(
         master,
@@ -165,6 +177,7 @@ pub fn set_up(
         blocks,
         card,
         table,
+        totals,
     );
     if code != 0 {
         return code;
@@ -186,7 +199,8 @@ pub fn set_up(
         pending: 0,
         count: 0,
     };
-    fill_table(keys, c, blocks, table);
+    let work = fill_table(keys, c, blocks, table);
     cards::write_card(card, c);
+    records::write_totals(totals, work);
     0
 }

@@ -15,50 +15,59 @@ use Rattle.asks.proofs.check.Tie as tie
 
 -- the limits of a card that fits
 limits : (c : tie.After-card-fits) → c .card-fits .result ≡ true
-    → Limits (c .before .before .before .read-card .result .«block_bytes») (c .before .before .before .read-card .result .rows) (c .before .before .before .read-card .result .positions)
-    (c .before .before .before .read-card .result .tokens) (c .before .before .before .read-card .result .blocks) (c .before .before .before .read-card .result .counter)
-    (c .before .before .before .read-card .result .next) (c .before .before .before .read-card .result .«open_token»)
+    → let r = c .before .before .before .read-card .result in Limits (r .«block_bytes») (r .rows) (r .positions) (r .tokens) (r .blocks) (r .counter) (r .next) (r .«open_token»)
 limits c f =
-    let card = c .before .before .before .before .before .before .before .before .before .before .before .before .before .before .args .card .now in
-    let head = c .before .before .before .before .before .check-head in
-    let read = c .before .before .before .read-card in
-    card-held card (read .result) (read .ensures)
-    (sym (card-of card (head .result) (head .ensures) (read .result) (c .before .before .before .before .if2 .left) (read .ensures) (sym (c .card-fits .ensures) ∙ f)))
+    let read = c .before .before .before in
+    let head = read .before .before in
+    let card = head .before .before .before .before .before .before .before .before .before .before .before .args .card .now in
+    card-held card (read .read-card .result) (read .read-card .ensures)
+    (sym (card-of card (head .check-head .result) (head .check-head .ensures) (read .read-card .result) (read .before .if2 .left) (read .read-card .ensures) (sym (c .card-fits .ensures) ∙ f)))
+
+lent-fits-requires : tie.Need-lent-fits-requires
+lent-fits-requires c κs = search needs
 
 returns : tie.Need-returns
 returns c =
-    let a = c .before .before .before .before .before .before .before .before .args in
+    let a = c .before .before .before .before .before .before .before .before .before .before .args in
     let edit = editOf (a .kind) (a .m) (a .old .now) (a .mark .now) (a .new .now) in
-    check-short (a .master .now) (a .card .now) (a .table .now) (a .second .now) edit (c .if1 .taken)
+    check-short (a .master .now) (a .card .now) (a .table .now) (a .second .now) edit (a .totals .now) (sym (c .before .lent-fits .ensures) ∙ not-true _ (c .if1 .taken))
 
 check-head-requires : tie.Need-check-head-requires
 check-head-requires c κs = search needs
 
 returns-2 : tie.Need-returns-2
 returns-2 c =
-    let a = c .before .before .before .before .before .before .before .before .before .before .args in
+    let head = c .before in
+    let a = head .before .before .before .before .before .before .before .before .before .before .before .args in
     let edit = editOf (a .kind) (a .m) (a .old .now) (a .mark .now) (a .new .now) in
-    check-refused (a .master .now) (a .card .now) (a .table .now) (a .second .now) edit (c .before .check-head .result) (c .before .before .if1 .left) (c .before .check-head .ensures) (c .if2 .taken)
+    check-refused (a .master .now) (a .card .now) (a .table .now) (a .second .now) edit (a .totals .now) (head .check-head .result) (sym (head .before .before .lent-fits .ensures) ∙ not-false _ (head .before .if1 .left))
+    (head .check-head .ensures) (c .if2 .taken)
 
 read-card-requires : tie.Need-read-card-requires
-read-card-requires c κs = head-read (c .before .before .before .before .before .before .before .before .before .before .args .card .now) (sym (c .before .check-head .ensures) ∙ c .if2 .left)
+read-card-requires c κs = head-read (c .before .before .before .before .before .before .before .before .before .before .before .before .args .card .now) (sym (c .before .check-head .ensures) ∙ c .if2 .left)
 
 returns-3 : tie.Need-returns-3
 returns-3 c =
-    let a = c .before .before .before .before .before .before .before .before .before .before .before .before .before .args in
+    let read = c .before .before in
+    let head = read .before .before in
+    let a = head .before .before .before .before .before .before .before .before .before .before .before .args in
     let edit = editOf (a .kind) (a .m) (a .old .now) (a .mark .now) (a .new .now) in
-    check-of (a .master .now) (a .card .now) (a .table .now) (a .second .now) edit (c .before .before .before .before .check-head .result) (c .before .before .before .before .before .if1 .left) (c .before .before .before .before .check-head .ensures) (c .before .before .read-card .result) (c .before .before .before .if2 .left) (c .before .before .read-card .ensures)
-    (ne-eqb (c .before .before .read-card .result .version) 3 (c .if3 .taken)) refl refl refl refl
+    check-of (a .master .now) (a .card .now) (a .table .now) (a .second .now) edit (a .totals .now) (head .check-head .result) (sym (head .before .before .lent-fits .ensures) ∙ not-false _ (head .before .if1 .left)) (head .check-head .ensures)
+    (read .read-card .result) (read .before .if2 .left) (read .read-card .ensures)
+    (ne-eqb (read .read-card .result .version) 3 (c .if3 .taken)) refl refl refl refl
 
 card-fits-requires : tie.Need-card-fits-requires
 card-fits-requires c κs = search needs
 
 returns-4 : tie.Need-returns-4
 returns-4 c =
-    let a = c .before .before .before .before .before .before .before .before .before .before .before .before .before .before .before .args in
+    let read = c .before .before .before .before in
+    let head = read .before .before in
+    let a = head .before .before .before .before .before .before .before .before .before .before .before .args in
     let edit = editOf (a .kind) (a .m) (a .old .now) (a .mark .now) (a .new .now) in
-    check-of (a .master .now) (a .card .now) (a .table .now) (a .second .now) edit (c .before .before .before .before .before .before .check-head .result) (c .before .before .before .before .before .before .before .if1 .left) (c .before .before .before .before .before .before .check-head .ensures) (c .before .before .before .before .read-card .result) (c .before .before .before .before .before .if2 .left) (c .before .before .before .before .read-card .ensures)
-    (eq-eqb (c .before .before .before .before .read-card .result .version) 3 (c .before .before .if3 .left)) (c .before .card-fits .ensures) (not-true _ (c .if4 .taken)) refl refl
+    check-of (a .master .now) (a .card .now) (a .table .now) (a .second .now) edit (a .totals .now) (head .check-head .result) (sym (head .before .before .lent-fits .ensures) ∙ not-false _ (head .before .if1 .left)) (head .check-head .ensures)
+    (read .read-card .result) (read .before .if2 .left) (read .read-card .ensures)
+    (eq-eqb (read .read-card .result .version) 3 (c .before .before .if3 .left)) (c .before .card-fits .ensures) (not-true _ (c .if4 .taken)) refl refl
 
 mul-if5 : tie.Need-mul-if5
 mul-if5 c =
@@ -67,11 +76,14 @@ mul-if5 c =
 
 returns-5 : tie.Need-returns-5
 returns-5 c =
-    let a = c .before .before .before .before .before .before .before .before .before .before .before .before .before .before .before .before .before .args in
+    let read = c .before .before .before .before .before .before in
+    let head = read .before .before in
+    let a = head .before .before .before .before .before .before .before .before .before .before .before .args in
     let edit = editOf (a .kind) (a .m) (a .old .now) (a .mark .now) (a .new .now) in
-    check-of (a .master .now) (a .card .now) (a .table .now) (a .second .now) edit (c .before .before .before .before .before .before .before .before .check-head .result) (c .before .before .before .before .before .before .before .before .before .if1 .left) (c .before .before .before .before .before .before .before .before .check-head .ensures) (c .before .before .before .before .before .before .read-card .result) (c .before .before .before .before .before .before .before .if2 .left) (c .before .before .before .before .before .before .read-card .ensures)
-    (eq-eqb (c .before .before .before .before .before .before .read-card .result .version) 3 (c .before .before .before .before .if3 .left)) (c .before .before .before .card-fits .ensures) (not-false _ (c .before .before .if4 .left))
-    (ne-eqb (length (a .second .now)) (c .before .before .before .before .before .before .read-card .result .tokens * 63) (c .if5 .taken)) refl
+    check-of (a .master .now) (a .card .now) (a .table .now) (a .second .now) edit (a .totals .now) (head .check-head .result) (sym (head .before .before .lent-fits .ensures) ∙ not-false _ (head .before .if1 .left)) (head .check-head .ensures)
+    (read .read-card .result) (read .before .if2 .left) (read .read-card .ensures)
+    (eq-eqb (read .read-card .result .version) 3 (c .before .before .before .before .if3 .left)) (c .before .before .before .card-fits .ensures) (not-false _ (c .before .before .if4 .left))
+    (ne-eqb (length (a .second .now)) (read .read-card .result .tokens * 63) (c .if5 .taken)) refl
 
 late-requires : tie.Need-late-requires
 late-requires c κs =
@@ -80,16 +92,20 @@ late-requires c κs =
 
 returns-6 : tie.Need-returns-6
 returns-6 c =
-    let a = c .before .before .before .before .before .before .before .before .before .before .before .before .before .before .before .before .before .before .args in
+    let read = c .before .before .before .before .before .before .before in
+    let head = read .before .before in
+    let a = head .before .before .before .before .before .before .before .before .before .before .before .args in
     let edit = editOf (a .kind) (a .m) (a .old .now) (a .mark .now) (a .new .now) in
-    check-of (a .master .now) (a .card .now) (a .table .now) (a .second .now) edit (c .before .before .before .before .before .before .before .before .before .check-head .result) (c .before .before .before .before .before .before .before .before .before .before .if1 .left) (c .before .before .before .before .before .before .before .before .before .check-head .ensures) (c .before .before .before .before .before .before .before .read-card .result) (c .before .before .before .before .before .before .before .before .if2 .left) (c .before .before .before .before .before .before .before .read-card .ensures)
-    (eq-eqb (c .before .before .before .before .before .before .before .read-card .result .version) 3 (c .before .before .before .before .before .if3 .left)) (c .before .before .before .before .card-fits .ensures) (not-false _ (c .before .before .before .if4 .left))
-    (eq-eqb (length (a .second .now)) (c .before .before .before .before .before .before .before .read-card .result .tokens * 63) (c .before .if5 .left)) (c .late .ensures)
+    check-of (a .master .now) (a .card .now) (a .table .now) (a .second .now) edit (a .totals .now) (head .check-head .result) (sym (head .before .before .lent-fits .ensures) ∙ not-false _ (head .before .if1 .left)) (head .check-head .ensures)
+    (read .read-card .result) (read .before .if2 .left) (read .read-card .ensures)
+    (eq-eqb (read .read-card .result .version) 3 (c .before .before .before .before .before .if3 .left)) (c .before .before .before .before .card-fits .ensures) (not-false _ (c .before .before .before .if4 .left))
+    (eq-eqb (length (a .second .now)) (read .read-card .result .tokens * 63) (c .before .if5 .left)) (c .late .ensures)
 
 pub check-spec : {M : Type 1} → statement M
 check-spec =
     tie.close
     (tie.spec
+    lent-fits-requires
     returns
     check-head-requires
     returns-2

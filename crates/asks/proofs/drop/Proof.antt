@@ -1,7 +1,7 @@
 -- A refusal leaves the card; what is written is the scheme's by settled.
 use borrow.Author.Needs.{needs}
 use mathlib.Core.Path.{sym, _∙_}
-use Rattle.scheme.specs.Calls.{droppedCard}
+use Rattle.scheme.specs.Changes.{droppedCard}
 use Rattle.scheme.specs.Asks.{dropCard}
 use Rattle.scheme.proofs.LadderLaws.{kept}
 use Rattle.cards.proofs.FaultLaws.{card-read}

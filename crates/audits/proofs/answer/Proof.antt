@@ -22,7 +22,7 @@ digest-requires c κs =
     let s = c .before .before .before .before .before in
     let m = s .args .m in
     let k = c .marks-in .result in
-    let b : Span = record { rows = m .rows; size = m .«block_bytes»; before = 0; count = m .blocks; mark = k; step = k } in
+    let b : Span = record { rows = m .rows; size = m .«block_bytes»; count = m .blocks; mark = k; step = k } in
     let p = s .pre .0 in
     let each : length (s .args .marks .now) ≡ m .blocks * k = s .pre .1 .1 ∙ ap (λ (n : ℕ). m .blocks * n) (sym (c .marks-in .ensures .0)) in (
       record {
@@ -34,8 +34,8 @@ digest-requires c κs =
         lone = c .marks-in .ensures .1;
         told = told-marked b (s .args .marks .now) refl each;
       },
-      refl,
       p .4,
+      p .5,
     )
 
 returns : tie.Need-returns
@@ -43,12 +43,14 @@ returns c =
     let s = c .before .before .before .before .before .before in
     let m = s .args .m in
     let k = c .before .marks-in .result in
-    let b : Span = record { rows = m .rows; size = m .«block_bytes»; before = 0; count = m .blocks; mark = k; step = k } in
-    let blocks : List (List ℕ) = pieces (m .«block_bytes») (m .blocks) (s .args .blocks .now) in
-    c .digest .ensures
-    ∙ ap (digest standard (m .«draw_key») (m .«hash_key») (m .rows) (m .positions))
-    (contents-marked b (s .args .blocks .now) (s .args .marks .now) refl
-    ∙ ap (λ (n : ℕ). marked (pieces n (m .blocks) (s .args .marks .now)) blocks) (c .before .marks-in .ensures .0))
+    let b : Span = record { rows = m .rows; size = m .«block_bytes»; count = m .blocks; mark = k; step = k } in
+    let blocks : List (List ℕ) = pieces (m .«block_bytes») (m .blocks) (s .args .blocks .now) in (
+      c .digest .ensures .0
+          ∙ ap (digest standard (m .«draw_key») (m .«hash_key») (m .rows) (m .positions))
+          (contents-marked b (s .args .blocks .now) (s .args .marks .now) refl
+          ∙ ap (λ (n : ℕ). marked (pieces n (m .blocks) (s .args .marks .now)) blocks) (c .before .marks-in .ensures .0)),
+      c .digest .ensures .1,
+    )
 
 pub answer-spec : {M : Type 1} → statement M
 answer-spec = tie.close (tie.spec marks-in-requires digest-requires returns)

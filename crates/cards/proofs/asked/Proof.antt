@@ -1,6 +1,6 @@
 -- The counter behind the last issued, which is the pending one.
 use borrow.Author.Needs.{needs}
-use Rattle.scheme.specs.Calls.{askedCard}
+use Rattle.scheme.specs.Changes.{askedCard}
 use Rattle.cards.specs.Fields.{cardOf}
 use Rattle.cards.proofs.asked.Statement.{statement}
 use Rattle.cards.proofs.asked.Tie as tie

@@ -1,6 +1,6 @@
 -- The pending counter and count stand.
 use borrow.Author.Needs.{needs}
-use Rattle.scheme.specs.Calls.{committedCard}
+use Rattle.scheme.specs.Changes.{committedCard}
 use Rattle.cards.specs.Fields.{cardOf}
 use Rattle.cards.proofs.committed.Statement.{statement}
 use Rattle.cards.proofs.committed.Tie as tie

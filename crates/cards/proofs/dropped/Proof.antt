@@ -1,6 +1,6 @@
 -- Every field but the pending ones is the card's own.
 use borrow.Author.Needs.{needs}
-use Rattle.scheme.specs.Calls.{droppedCard}
+use Rattle.scheme.specs.Changes.{droppedCard}
 use Rattle.cards.specs.Fields.{cardOf}
 use Rattle.cards.proofs.dropped.Statement.{statement}
 use Rattle.cards.proofs.dropped.Tie as tie

@@ -1,7 +1,8 @@
--- The block changes of the kind, resealed, and the number of blocks after them, by blocks-after.
+-- The block changes of the kind, resealed, their work, and the number of blocks after them, by blocks-after.
 use borrow.Author.Needs.{needs}
 use native.Mathlib.Omega.{arith}
-use mathlib.Core.Path.{_∙_}
+use mathlib.Core.Path.{ap₂, _∙_}
+use Rattle.scheme.specs.Totals.{totalsBytes}
 use Rattle.changes.proofs.WorkLaws.{blocks-after}
 use Rattle.changes.proofs.reseal_for.Statement.{statement}
 use Rattle.changes.proofs.reseal_for.Tie as tie
@@ -12,26 +13,47 @@ work-of-requires c κs = search needs
 reseal-as-requires : tie.Need-reseal-as-requires
 reseal-as-requires c κs = search needs
 
+write-totals-requires : tie.Need-write-totals-requires
+write-totals-requires c κs = search needs
+
 blocks-after-requires : tie.Need-blocks-after-requires
 blocks-after-requires c κs =
-    let start = c .before .before .before .before .before .before .before .before .before in
+    let formed = c .before .before .before .before .before .before .before .before in
+    let start = formed .before .before .before .before .before .before in
     let a = start .args in
-    let work = c .before .before .before .before .work-of in
+    let work = formed .work-of in
     omega (arith, start .pre .1 .few, blocks-after (a .c) (a .kind) (a .m) (a .old .now) (a .mark .now) (a .new .now) (work .result) (work .ensures) (start .pre .1) .1)
 
 same-length : tie.Need-same-length
 same-length c = search needs
 
+same-length-2 : tie.Need-same-length-2
+same-length-2 c = search needs
+
 returns : tie.Need-returns
 returns c =
-    let start = c .before .before .before .before .before .before .before .before .before .before in
+    let sealed = c .before .before .before .before .before .before .before in
+    let formed = sealed .before .before in
+    let start = formed .before .before .before .before .before .before in
     let a = start .args in
-    let work = c .before .before .before .before .before .work-of in (
+    let work = formed .work-of in (
       c .blocks-after .ensures ∙ blocks-after (a .c) (a .kind) (a .m) (a .old .now) (a .mark .now) (a .new .now) (work .result) (work .ensures) (start .pre .1) .0,
-      c .before .before .before .reseal-as .ensures,
+      (
+        sealed .reseal-as .ensures .0,
+        λ master k.
+            let t = sealed .reseal-as .ensures .1 master k in
+            c .before .before .before .write-totals .ensures ∙ ap₂ totalsBytes (t .0) (t .1),
+      ),
     )
 
 pub reseal-for-spec : {M : Type 1} → statement M
 reseal-for-spec =
     tie.close
-    (tie.spec work-of-requires reseal-as-requires blocks-after-requires same-length returns)
+    (tie.spec
+    work-of-requires
+    reseal-as-requires
+    write-totals-requires
+    blocks-after-requires
+    same-length
+    same-length-2
+    returns)

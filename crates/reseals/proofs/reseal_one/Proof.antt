@@ -2,8 +2,10 @@
 use borrow.Author.Needs.{needs}
 use native.Mathlib.Omega.{arith}
 use Prim.Native.Nat.{ℕ}
-use mathlib.Core.Path.{ap₂, _∙_}
+use mathlib.Core.Path.{_≡_, ap, ap₂, _∙_}
+use lib.ListN.{length}
 use Rattle.scheme.specs.Tokens.{workedDigest}
+use Rattle.scheme.specs.Totals.{workTurns, workHashes}
 use Rattle.standard.specs.Standard.{standard}
 use Rattle.cards.specs.Fields.{cardOf}
 use Rattle.tokens.specs.Keyed.{tokenKey}
@@ -11,6 +13,9 @@ use Rattle.items.specs.Items.{itemsOf}
 use Rattle.reseals.proofs.ResealLaws.{one-record}
 use Rattle.reseals.proofs.reseal_one.Statement.{statement}
 use Rattle.reseals.proofs.reseal_one.Tie as tie
+
+digest-long : (c : tie.After-worked) → length (c .worked .result .digest) ≡ 32
+digest-long c = search needs
 
 token-in-requires : tie.Need-token-in-requires
 token-in-requires c κs = search needs
@@ -21,15 +26,11 @@ worked-requires c κs =
     (s .pre .0 .3, s .pre .1 .0)
 
 add-seal-token : tie.Need-add-seal-token
-add-seal-token c =
-    let back14 = c .before .before .before .before .before .before .before .before .before .before .before .before .before .before in
-    let s = back14 .before .before .before .before .before .before .before .before .before .before .before .before .before .before in
-    omega (arith, s .pre .0 .1)
+add-seal-token c = omega (arith, c .before .before .before .before .before .before .before .before .before .before .before .before .before .before .before .before .before .before .before .before .before .before .before .before .before .before .before .before .before .pre .0 .1)
 
 seal-token-requires : tie.Need-seal-token-requires
 seal-token-requires c κs =
-    let back15 = c .before .before .before .before .before .before .before .before .before .before .before .before .before .before .before in
-    let s = back15 .before .before .before .before .before .before .before .before .before .before .before .before .before .before in
+    let s = c .before .before .before .before .before .before .before .before .before .before .before .before .before .before .before .before .before .before .before .before .before .before .before .before .before .before .before .before .before .before in
     let i = s .pre .1 .1 .0 in
     (omega (arith, s .pre .0 .0), i .0, i .1, i .2)
 
@@ -51,20 +52,30 @@ same-length-5 c = search needs
 returns : tie.Need-returns
 unfolding cardOf
 returns c =
-    let back13 = c .before .before .before .before .before .before .before .before .before .before .before .before .before in
-    let back18 = back13 .before .before .before .before .before in
-    let back32 = back18 .before .before .before .before .before .before .before .before .before .before .before .before .before .before in
-    let a = back32 .args in
-    let shaped = back32 .pre .0 .2 in
+    let back14 = c .before .before .before .before .before .before .before .before .before .before .before .before .before .before in
+    let back19 = back14 .before .before .before .before .before in
+    let back33 = back19 .before .before .before .before .before .before .before .before .before .before .before .before .before .before in
+    let a = back33 .args in
+    let shaped = back33 .pre .0 .2 in
     let items = itemsOf (a .work) (a .old-mark .now) (a .old .now) (a .new-mark .now) (a .new .now) in
-    let x = back18 .token-in in
-    let y = back13 .worked in
-    one-record (a .keys) (cardOf (a .c)) items (a .i .0) (a .table .now) _ (x .result) (y .result)
+    let k = tokenKey (a .keys .w) (a .i .0) in
+    let x = back19 .token-in in
+    let y = back14 .worked in
+    let both =
+    one-record (a .keys) (cardOf (a .c)) items (a .i .0) (a .table .now) _ (x .result) (y .result .digest)
     (x .ensures)
-    (y .ensures
-    ∙ ap₂ (λ (d r : ℕ). workedDigest standard (tokenKey (a .keys .w) (a .i .0)) (tokenKey (a .keys .z) (a .i .0)) d r items (x .result)) (shaped .rows) (shaped .positions))
-    (search needs)
-    (c .before .before .seal-token .ensures)
+    (y .ensures .digest ∙ ap₂ (λ (d r : ℕ). workedDigest standard k (tokenKey (a .keys .z) (a .i .0)) d r items (x .result)) (shaped .rows) (shaped .positions))
+    (digest-long back14)
+    (c .before .before .seal-token .ensures) in (
+      both .0,
+      (
+        both .1,
+        (
+          y .ensures .turns ∙ ap (λ (d : ℕ). workTurns standard k d items) (shaped .rows),
+          y .ensures .hashes ∙ ap₂ (λ (d r : ℕ). workHashes standard k d r items) (shaped .rows) (shaped .positions),
+        ),
+      ),
+    )
 
 pub reseal-one-spec : {M : Type 1} → statement M
 reseal-one-spec =

@@ -1,13 +1,16 @@
--- Several changes by after-all, a change that comes alone by after-one.
+-- Several changes by all-items, a change that comes alone by one-item.
 use borrow.Author.Needs.{needs}
 use borrow.Author.Tests.{not-true, not-false}
 use native.Mathlib.Omega.{arith}
-use mathlib.Core.Path.{_≡_, sym, _∙_}
-use mathlib.Core.Bool.{true, false}
+use Prim.Native.Nat.{ℕ}
+use mathlib.Core.Path.{_≡_, sym, subst, _∙_}
+use mathlib.Core.List.{List}
+use mathlib.Core.Bool.{false}
 use lib.Seq.{length-take-le}
-use Rattle.tokens.specs.Keyed.{tokenKey}
+use Rattle.scheme.specs.Tokens.{Change}
+use Rattle.tokens.specs.Keyed.{tokenKey, Done}
 use Rattle.items.specs.Items.{alone}
-use Rattle.works.proofs.ItemLaws.{after-one, after-all}
+use Rattle.works.proofs.ItemLaws.{one-item, all-items}
 use Rattle.works.proofs.worked.Statement.{statement}
 use Rattle.works.proofs.worked.Tie as tie
 
@@ -40,9 +43,9 @@ returns c =
     let s = many .before .before .before .before .before .before .before .before .before .before in
     let a = s .args in
     let m : alone (a .work) ≡ false = sym (many .before .alone .ensures) ∙ not-true _ (many .if1 .taken) in
-    done .several .ensures
-    ∙ after-all (tokenKey (a .w) (a .i .0)) (tokenKey (a .z) (a .i .0)) (a .work) (a .new .now) (a .old-mark .now) (a .old .now) (a .new-mark .now) (a .x)
-    (λ l. s .pre .0 .several m .added l .fresh) (s .pre .0 .living m)
+    subst (λ (work : List (ℕ × Change)). Done (tokenKey (a .w) (a .i .0)) (tokenKey (a .z) (a .i .0)) (a .work .rows) (a .work .positions) work (a .x) (done .several .result))
+    (all-items (a .work) (a .old-mark .now) (a .old .now) (a .new-mark .now) (a .new .now) (λ l. s .pre .0 .several m .added l .fresh) (s .pre .0 .living m))
+    (done .several .ensures)
 
 slice-aggregate-changed : tie.Need-slice-aggregate-changed
 slice-aggregate-changed c =
@@ -78,8 +81,9 @@ returns-2 c =
     let one = c .before .before .before in
     let s = one .before .before .before .before .before .before .before .before .before .before in
     let a = s .args in
-    after-one (tokenKey (a .w) (a .i .0)) (tokenKey (a .z) (a .i .0)) (a .work) (a .old-mark .now) (a .old .now) (a .new-mark .now) (a .new .now) (a .x)
-    (sym (one .before .alone .ensures) ∙ not-false _ (one .if1 .left)) _ (c .changed .ensures)
+    subst (λ (work : List (ℕ × Change)). Done (tokenKey (a .w) (a .i .0)) (tokenKey (a .z) (a .i .0)) (a .work .rows) (a .work .positions) work (a .x) (c .changed .result))
+    (one-item (a .work) (a .old-mark .now) (a .old .now) (a .new-mark .now) (a .new .now) (sym (one .before .alone .ensures) ∙ not-false _ (one .if1 .left)))
+    (c .changed .ensures)
 
 pub worked-spec : {M : Type 1} → statement M
 worked-spec =
