@@ -4,7 +4,6 @@
 --   width-most, side-is, side-most, ceiling-is    the machine's 1, shifted by h and squared, and the ceiling by it
 --   whole-most                   r × q fits a machine's number
 --   least-none, least-some, most-all, most-some   the least and the most by their tests
---   five                         five numbers put one behind the other into 40 bytes
 --   sheet-kept, sheet-done       what a refusal leaves, and what an answer writes
 use Prim.Native.Nat.{ℕ, _+_, _*_, _-_, _/_, _%_, _^_, _≤_, _<_}
 use native.Mathlib.Omega.{arith}
@@ -14,10 +13,8 @@ use mathlib.Core.List.{List, _++_}
 use mathlib.Core.Bool.{Bool, cond, _&&_}
 use borrow.Author.Tests.{eqb-true, leb-true}
 use lib.Dec.{eqb, leb}
-use lib.ListN.{length, length-append}
-use Rattle.octets.specs.Octets.{be, put}
-use Rattle.octets.proofs.NumberLaws.{length-be}
-use Rattle.octets.proofs.PartLaws.{put-put, put-whole}
+use lib.ListN.{length}
+use Rattle.octets.specs.Octets.{be}
 use Rattle.permutation.specs.Rounds.{half}
 use Rattle.permutation.proofs.RoundLaws.{square}
 use Rattle.permutation.proofs.WidthLaws.{half-le, half-wide, whole-le}
@@ -101,21 +98,3 @@ module _ (d r n : ℕ) where
   pub most-some : n % d < r → r * (n / d) + n % d ≡ most d r n
   unfolding most
   most-some h = omega arith
-
--- one number behind those that stand
-next : (at x : ℕ) (ys xs : List ℕ) {s t : List ℕ} → length ys ≡ at → at + 8 ≤ length xs → s ≡ put 0 ys xs → t ≡ put at (be 8 x) s
-    → (t ≡ put 0 (ys ++ be 8 x) xs) × (length (ys ++ be 8 x) ≡ at + 8)
-next at x ys xs l h p q =
-    let w : length (be 8 x) ≡ 8 = length-be 8 x in
-    let i : at ≡ 0 + length ys = omega arith in
-    (q ∙ ap₂ (λ (j : ℕ) (u : List ℕ). put j (be 8 x) u) i p ∙ put-put 0 ys (be 8 x) xs (omega arith), omega (arith, length-append ys (be 8 x)))
-
-pub five : (a b c d e : ℕ) (xs : List ℕ) {s₁ s₂ s₃ s₄ s₅ : List ℕ} → length xs ≡ 40
-    → s₁ ≡ put 0 (be 8 a) xs → s₂ ≡ put 8 (be 8 b) s₁ → s₃ ≡ put 16 (be 8 c) s₂ → s₄ ≡ put 24 (be 8 d) s₃ → s₅ ≡ put 32 (be 8 e) s₄
-    → s₅ ≡ be 8 a ++ be 8 b ++ be 8 c ++ be 8 d ++ be 8 e
-five a b c d e xs l p₁ p₂ p₃ p₄ p₅ =
-    let q₂ = next 8 b (be 8 a) xs (length-be 8 a) (omega arith) p₁ p₂ in
-    let q₃ = next 16 c (be 8 a ++ be 8 b) xs (q₂ .1) (omega arith) (q₂ .0) p₃ in
-    let q₄ = next 24 d (be 8 a ++ be 8 b ++ be 8 c) xs (q₃ .1) (omega arith) (q₃ .0) p₄ in
-    let q₅ = next 32 e (be 8 a ++ be 8 b ++ be 8 c ++ be 8 d) xs (q₄ .1) (omega arith) (q₄ .0) p₅ in
-    q₅ .0 ∙ put-whole (be 8 a ++ be 8 b ++ be 8 c ++ be 8 d ++ be 8 e) xs (q₅ .1 ∙ sym l)

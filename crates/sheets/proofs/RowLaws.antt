@@ -2,10 +2,8 @@
 --   extra s ρ, columns-is, total-columns             a row has n div d blocks, and one more where it is among the first n mod d
 --   one-more, more                                   with k more first rows, at most k of different rows are among the first that were not
 --   extra-most, extra-least                          so that of r different rows the lesser of r and s at most are among the first s, and r - (d - s) at least
---   length-upFrom, distinct-upFrom, between-upFrom   the k numbers from a on are k, different, and in a range
---   extra-upFrom                                     how many of them are among the first rows
---   total-down                                       a sum over the numbers from a + 1 on, of what stands one before
---   distinct-map, between-map                        different numbers go to different ones, and into a range
+--   extra-upFrom                                     how many of the k numbers from a on are among the first rows
+--   total-map, distinct-map, between-map             the numbers of a list, each gone to another: their sum; different ones stay so; their range
 use Prim.Native.Nat.{ℕ, zero, suc, _+_, _*_, _-_, _/_, _%_, _≤_, _<_, min}
 use native.Mathlib.Omega.{arith}
 use native.Mathlib.Decide.{decLt, ℕ-discrete}
@@ -17,9 +15,8 @@ use mathlib.Core.Bool.{cond}
 use borrow.Author.Tests.{le-leb, lt-leb}
 use lib.Dec.{leb}
 use lib.ListN.{length}
-use Rattle.permutation.specs.Distinct.{Fresh, Distinct, Between, total}
+use Rattle.permutation.specs.Distinct.{Fresh, Distinct, Between, total, upFrom}
 use Rattle.scheme.specs.Tokens.{columnsOf}
-use Rattle.sheets.specs.Exact.{upFrom}
 
 -- one block more in the first s rows
 unfoldable pub extra : ℕ → ℕ → ℕ
@@ -113,23 +110,6 @@ module _ (d n : ℕ) where
   total-columns (ρ ∷ l) b =
       omega (arith, columns-is ρ (b .0) (omega (arith, b .1)), total-columns l (b .2), suc-mul (length l) (n / d))
 
--- the k numbers from a on
-pub length-upFrom : (a k : ℕ) → length (upFrom a k) ≡ k
-length-upFrom a zero = refl
-length-upFrom a (suc k) = ap suc (length-upFrom (suc a) k)
-
-fresh-upFrom : (x a k : ℕ) → x < a → Fresh x (upFrom a k)
-fresh-upFrom x a zero h = tt
-fresh-upFrom x a (suc k) h = ((λ e. omega arith), fresh-upFrom x (suc a) k (omega arith))
-
-pub distinct-upFrom : (a k : ℕ) → Distinct (upFrom a k)
-distinct-upFrom a zero = tt
-distinct-upFrom a (suc k) = (fresh-upFrom a (suc a) k (omega arith), distinct-upFrom (suc a) k)
-
-pub between-upFrom : (lo hi a k : ℕ) → lo ≤ a → a + k ≤ hi → Between lo hi (upFrom a k)
-between-upFrom lo hi a zero h g = tt
-between-upFrom lo hi a (suc k) h g = (h, omega arith, between-upFrom lo hi (suc a) k (omega arith) (omega arith))
-
 pub extra-upFrom : (s a k : ℕ) → total (extra s) (upFrom a k) ≡ min k (suc s - a)
 extra-upFrom s a zero = omega arith
 extra-upFrom s a (suc k) = go (decLt s a) (extra-upFrom s (suc a) k)
@@ -138,13 +118,11 @@ extra-upFrom s a (suc k) = go (decLt s a) (extra-upFrom s (suc a) k)
     go (yes p) ih = omega (arith, extra-out s a p)
     go (no p) ih = omega (arith, extra-in s a (omega arith))
 
-pub total-down : (f : ℕ → ℕ) (a k : ℕ) → total (λ j. f (j - 1)) (upFrom (suc a) k) ≡ total f (upFrom a k)
-total-down f a zero = refl
-total-down f a (suc k) =
-    let e : suc a - 1 ≡ a = omega arith in
-    ap₂ (λ (x y : ℕ). x + y) (ap f e) (total-down f (suc a) k)
-
 -- the numbers of a list, each gone to another
+pub total-map : (f g : ℕ → ℕ) (l : List ℕ) → total f (map g l) ≡ total (λ x. f (g x)) l
+total-map f g [] = refl
+total-map f g (x ∷ l) = ap (λ (y : ℕ). f (g x) + y) (total-map f g l)
+
 module _ (g : ℕ → ℕ) (lo hi : ℕ) (apart : (x y : ℕ) → lo ≤ x → x < hi → lo ≤ y → y < hi → g x ≡ g y → x ≡ y) where
   fresh-map : (x : ℕ) → lo ≤ x → x < hi → (l : List ℕ) → Between lo hi l → Fresh x l → Fresh (g x) (map g l)
   fresh-map x p q [] b f = tt

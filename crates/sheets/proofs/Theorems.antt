@@ -1,44 +1,38 @@
 -- What the numbers of a sheet say of a file. Assumes nothing.
---   ceiling-holds                      the turns of one token, under any key, are at most the ceiling
+--   ceiling-holds                      the turns of one token, under any key, are at most the ceiling: #109's token-turns
 --   rows-between                       the hashes for a proof of any r different rows are at least the least and at most the most
 --   most-attained, least-attained      the first rows have the most, the last rows the least
---   drawn-rows                         the rows that a token draws are r different rows
+--   drawn-between                      the rows that a token draws are r different rows, so that its hashes are between the two
 --   chance-holds, chance-none          the chance is never under the exact value and less than r units above it; it is 0 when r exceeds d - m
 --   sheet-quotes                       all this of the numbers in the buffer of a sheet that is not refused
 use Prim.Native.Nat.{ℕ, suc, _+_, _*_, _-_, _/_, _%_, _^_, _≤_, _<_, min}
 use native.Mathlib.Omega.{arith}
 use native.Mathlib.Nat.{mod-lt}
 use mathlib.Core.Path.{_≡_, refl, sym, ap, subst, _∙_}
-use mathlib.Core.List.{List}
+use mathlib.Core.List.{List, map}
 use lib.ListN.{length-map}
 use Rattle.octets.specs.Octets.{le, be}
 use Rattle.octets.proofs.NumberLaws.{be-back}
 use Rattle.permutation.specs.Rounds.{half}
-use Rattle.permutation.specs.Distinct.{total}
-use Rattle.permutation.specs.Permutation.{forwardTurns}
-use Rattle.permutation.proofs.WidthLaws.{half-le, half-wide, whole-le}
-use Rattle.permutation.proofs.PermutationLaws.{forward-total}
+use Rattle.permutation.specs.Distinct.{total, upFrom}
+use Rattle.permutation.proofs.UpFrom.{length-upFrom, distinct-upFrom, between-upFrom}
+use Rattle.permutation.proofs.WidthLaws.{half-le, whole-le}
 use Rattle.scheme.specs.Primitives.{Primitives}
-use Rattle.scheme.specs.Tokens.{drawnRow}
+use Rattle.scheme.specs.Tokens.{columnsOf, drawnRow}
+use Rattle.scheme.specs.Totals.{digestTurns, digestHashes}
 use Rattle.scheme.proofs.LadderLaws.{done}
+use Rattle.standard.specs.Standard.{standard}
+use Rattle.standard.proofs.WorkTheorem.{sum-over, token-turns}
 use Rattle.sheets.specs.Sheet.{tableBytes, ceiling, least, most, escape, sheetCode, sheetBytes, sheetOut}
-use Rattle.sheets.specs.Exact.{upFrom, tokenTurns, Rows, drawn, hashes, falling, Quotes, numberAt}
-use Rattle.sheets.proofs.RowLaws.{extra, extra-most, extra-least, total-columns, length-upFrom, distinct-upFrom, between-upFrom, extra-upFrom}
-use Rattle.sheets.proofs.RowLaws.{total-down, distinct-map, between-map}
+use Rattle.sheets.specs.Exact.{Rows, hashes, falling, Quotes, numberAt}
+use Rattle.sheets.proofs.RowLaws.{extra, extra-most, extra-least, total-columns, extra-upFrom, total-map, distinct-map, between-map}
 use Rattle.sheets.proofs.ChanceLaws.{figure-most, escape-is, escape-none, escape-above, escape-below, falling-none}
 use Rattle.sheets.proofs.CallLaws.{sheet-held, whole-most}
 
--- "(walks from different positions never cross outside the rows)": forward-total, of the walks from 0 to r - 1
-pub ceiling-holds : (key : List ℕ) (d r : ℕ) → r ≤ d → tokenTurns key d r ≤ ceiling d r
-unfolding ceiling tokenTurns
-ceiling-holds key d r h =
-    omega (
-      arith,
-      total-down (forwardTurns key d) 0 r,
-      forward-total key d (upFrom 0 r) (distinct-upFrom 0 r) (between-upFrom 0 d 0 r (omega arith) (omega arith)),
-      length-upFrom 0 r,
-      half-wide d,
-    )
+-- "(walks from different positions never cross outside the rows)"
+pub ceiling-holds : (k : List ℕ) (d r : ℕ) → r ≤ d → digestTurns standard k d r ≤ ceiling d r
+unfolding ceiling
+ceiling-holds k d r h = token-turns k d r h
 
 module _ (d r n : ℕ) (d1 : 1 ≤ d) where
   -- q blocks in each row, and one more in those among the first s
@@ -87,14 +81,21 @@ module _ (P : Primitives) (k : List ℕ) (d : ℕ) (most-d : d ≤ 1048576) wher
   unfolding drawnRow
   inside x x1 xd = (omega arith, omega (arith, P .perm-below k d (x - 1) most-d (omega arith)))
 
-  pub drawn-rows : (r : ℕ) → r ≤ d → Rows d r (drawn P k d r)
-  unfolding drawn
+  drawn-rows : (r : ℕ) → r ≤ d → Rows d r (map (drawnRow P k d) (upFrom 1 r))
   drawn-rows r h =
       let b = between-upFrom 1 (suc d) 1 r (omega arith) (omega arith) in (
         length-map (upFrom 1 r) (drawnRow P k d) ∙ length-upFrom 1 r,
         between-map (drawnRow P k d) 1 (suc d) 1 (suc d) inside (upFrom 1 r) b,
         distinct-map (drawnRow P k d) 1 (suc d) apart (upFrom 1 r) b (distinct-upFrom 1 r),
       )
+
+  pub drawn-between : (r n : ℕ) → 1 ≤ d → r ≤ d → (least d r n ≤ digestHashes P k d r n) × (digestHashes P k d r n ≤ most d r n)
+  unfolding digestHashes hashes
+  drawn-between r n d1 h =
+      let each : digestHashes P k d r n ≡ hashes d n (map (drawnRow P k d) (upFrom 1 r)) =
+      sum-over (λ j. columnsOf d n (drawnRow P k d j)) r 1 ∙ sym (total-map (columnsOf d n) (drawnRow P k d) (upFrom 1 r)) in
+      let w = rows-between d r n d1 (map (drawnRow P k d) (upFrom 1 r)) (drawn-rows r h) in
+      (omega (arith, each, w .0), omega (arith, each, w .1))
 
 -- "the figure is never under the exact value and less than r units above it"
 pub chance-holds : (d r m : ℕ) → 1 ≤ r → r ≤ d
@@ -108,11 +109,11 @@ chance-none d r m h = (falling-none (d - m) r h, sym (escape-none d r m h))
 -- of a sheet that is not refused
 module _ (B d r t n m : ℕ) (out : List ℕ) (code : sheetCode B d r t n m out ≡ 0) where
   -- each number is below 2^64, so that the buffer holds it whole
-  reads : (numberAt 0 (sheetBytes d r t n m) ≡ tableBytes t) × (numberAt 1 (sheetBytes d r t n m) ≡ ceiling d r)
+  five : (numberAt 0 (sheetBytes d r t n m) ≡ tableBytes t) × (numberAt 1 (sheetBytes d r t n m) ≡ ceiling d r)
       × (numberAt 2 (sheetBytes d r t n m) ≡ least d r n) × (numberAt 3 (sheetBytes d r t n m) ≡ most d r n)
       × (numberAt 4 (sheetBytes d r t n m) ≡ escape d r m)
   unfolding sheetBytes tableBytes ceiling least most be le
-  reads =
+  five =
       let held = sheet-held B d r t n m out code in
       let whole = whole-most d r n (held .shape .rmost) (held .n-most) in
       let square = whole-le (half d) (half-le d (held .shape .dmost)) in
@@ -133,7 +134,8 @@ module _ (B d r t n m : ℕ) (out : List ℕ) (code : sheetCode B d r t n m out 
       let high = most-attained d r n (shape .d1) (shape .rd) in
       record {
         room = p₁;
-        walks = λ key. omega (arith, p₂, ceiling-holds key d r (shape .rd));
+        walks = λ k. omega (arith, p₂, ceiling-holds k d r (shape .rd));
+        reads = λ k. let w = drawn-between standard k d (shape .dmost) r n (shape .d1) (shape .rd) in (omega (arith, p₃, w .0), omega (arith, p₄, w .1));
         between = λ rows h. let w = rows-between d r n (shape .d1) rows h in (omega (arith, p₃, w .0), omega (arith, p₄, w .1));
         lowest = (low .0, low .1, low .2 ∙ sym p₃);
         highest = (high .0, high .1, high .2 ∙ sym p₄);
@@ -147,4 +149,4 @@ module _ (B d r t n m : ℕ) (out : List ℕ) (code : sheetCode B d r t n m out 
   sheet-quotes =
       let written : sheetBytes d r t n m ≡ sheetOut B d r t n m out = done (sheetCode B d r t n m out) (sheetBytes d r t n m) out 0 (sym code) refl in
       subst (λ (s : List ℕ). Quotes d r t n m (numberAt 0 s) (numberAt 1 s) (numberAt 2 s) (numberAt 3 s) (numberAt 4 s)) written
-      (quotes (reads .0) (reads .1) (reads .2) (reads .3) (reads .4))
+      (quotes (five .0) (five .1) (five .2) (five .3) (five .4))

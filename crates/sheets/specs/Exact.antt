@@ -1,37 +1,22 @@
 -- What the numbers of a sheet are held to: the turns, the hashes and the chance as they are. Assumes nothing.
---   upFrom a k               the k numbers from a on
---   tokenTurns key d r       the turns of one token under a key
 --   Rows d r rows            r different rows
---   drawn P k d r            the rows that a token draws
 --   hashes d n rows          the hashes for a proof of rows, of n blocks
 --   falling d k              d × (d - 1) × .., k factors
 --   Quotes                   what the five numbers of a sheet say of a file
 --   numberAt i out           number i, from 0, in a buffer of numbers
 use Prim.Native.Nat.{ℕ, zero, suc, _+_, _*_, _-_, _^_, _≤_, _<_}
 use mathlib.Core.Path.{_≡_}
-use mathlib.Core.List.{List, [], _∷_, map}
+use mathlib.Core.List.{List}
 use lib.ListN.{length}
 use Rattle.octets.specs.Octets.{ofBe, part}
 use Rattle.permutation.specs.Distinct.{Distinct, Between, total}
-use Rattle.permutation.specs.Permutation.{forwardTurns}
-use Rattle.scheme.specs.Primitives.{Primitives}
-use Rattle.scheme.specs.Tokens.{columnsOf, drawnRow}
-
-abbrev pub upFrom : ℕ → ℕ → List ℕ
-upFrom a zero = []
-upFrom a (suc k) = a ∷ upFrom (suc a) k
-
--- "the turns of one token": position j in 1..r walks from j - 1
-unfoldable pub tokenTurns : List ℕ → ℕ → ℕ → ℕ
-tokenTurns key d r = total (λ j. forwardTurns key d (j - 1)) (upFrom 1 r)
+use Rattle.scheme.specs.Tokens.{columnsOf}
+use Rattle.scheme.specs.Totals.{digestTurns, digestHashes}
+use Rattle.standard.specs.Standard.{standard}
 
 -- "any r different rows", of 1..d
 abbrev pub Rows : ℕ → ℕ → List ℕ → Type 0
 Rows d r rows = (length rows ≡ r) × Between 1 (suc d) rows × Distinct rows
-
--- "Position j in 1..r draws row P(j-1) + 1 under k"
-unfoldable pub drawn : Primitives → List ℕ → ℕ → ℕ → List ℕ
-drawn P k d r = map (drawnRow P k d) (upFrom 1 r)
 
 -- one hash for every block of every row
 unfoldable pub hashes : ℕ → ℕ → List ℕ → ℕ
@@ -45,9 +30,10 @@ falling d (suc j) = falling d j * (d - j)
 pub record Quotes (d r t n m : ℕ) (table turns low high chance : ℕ) : Type 0 where
   -- "the table's bytes"
   pub room : table ≡ t * 63
-  -- "a ceiling .. on the turns of one token"
-  pub walks : (key : List ℕ) → tokenTurns key d r ≤ turns
-  -- "the least and most hashes for a proof of any r different rows"
+  -- "a ceiling .. on the turns of one token": those that set-up and proof tell (#109), under any key k
+  pub walks : (k : List ℕ) → digestTurns standard k d r ≤ turns
+  -- "the least and most hashes for a proof": those that a proof tells; and "of any r different rows"
+  pub reads : (k : List ℕ) → (low ≤ digestHashes standard k d r n) × (digestHashes standard k d r n ≤ high)
   pub between : (rows : List ℕ) → Rows d r rows → (low ≤ hashes d n rows) × (hashes d n rows ≤ high)
   pub lowest : (rows : List ℕ) × Rows d r rows × (hashes d n rows ≡ low)
   pub highest : (rows : List ℕ) × Rows d r rows × (hashes d n rows ≡ high)
