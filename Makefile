@@ -1,4 +1,6 @@
 # make week               one file's week on real files, and a month in one load, told step by step: examples/
+# make sheet              a planning sheet: room, reading, work and risk of a file from its numbers. block_bytes= rows= positions= tokens= blocks=
+#                         damaged= tell others than the example's, picture=FILE.svg draws the risk
 # make lib                the archive and its headers in target/legbaro: code for plain x86-64, with AVX2 and with AVX-512, and a choice between them
 # make lib CPU=NAME       the archive with one code alone, in target/legbaro-NAME; NAME is x86-64, avx2 or avx512
 #                         CPU=NAME goes with week, install and compare too
@@ -9,7 +11,7 @@
 # make bench              times the library against the second implementation; the tables of docs/PERFORMANCE.md
 # make headline           times one great set-up, whole: 11,680 tokens of 512 positions over 4,096 blocks of 4,096 bytes
 # make prove              proves every crate that changed since it was last proved, and runs the programs
-.PHONY: week lib install test compare chosen bench headline prove
+.PHONY: week sheet lib install test compare chosen bench headline prove
 
 PREFIX ?= /usr/local
 CFLAGS ?= -O2
@@ -29,6 +31,16 @@ $(OUT)/week: $(wildcard examples/*.c examples/*.h) $(LIB)/liblegbaro.a $(HEADERS
 	@tools/needs cc
 	@mkdir -p $(OUT)
 	$(COMPILE) $(filter %.c,$^) -o $@ $(LINK)
+
+SHEET_WORDS := block_bytes rows positions tokens blocks damaged picture
+
+sheet: $(OUT)/sheet
+	@$(OUT)/sheet $(foreach word,$(SHEET_WORDS),$(if $(findstring command,$(origin $(word))),$(word)=$($(word))))
+
+$(OUT)/sheet: $(wildcard examples/sheet/*.c examples/sheet/*.h) $(LIB)/liblegbaro.a $(HEADERS)
+	@tools/needs cc
+	@mkdir -p $(OUT)
+	$(COMPILE) $(filter %.c,$^) -o $@ $(LINK) -lm
 
 lib: $(LIB)/liblegbaro.a $(HEADERS)
 	@echo "$(LIB)/liblegbaro.a: $$(wc -c < $(LIB)/liblegbaro.a) bytes"

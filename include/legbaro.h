@@ -13,7 +13,7 @@
  *
  *   legbaro/changes.h    set-up, update, delete, append, load, batch; the same five asked; commit, drop
  *   legbaro/audits.h     draw, wait, judge, cause; the host's proof
- *   legbaro/planning.h   positions
+ *   legbaro/planning.h   positions, sheet
  *
  * A block has B bytes. Blocks are numbered from 1 and lie in d rows: block m in row ((m-1) mod d) + 1, column (m-1) div d.
  * A token draws r of the d rows, and covers every block in them. Each audit spends one of the t tokens.
@@ -109,6 +109,7 @@
 #define LEGBARO_REPLY_BYTES 110
 #define LEGBARO_PLAN_BYTES 28
 #define LEGBARO_TOTALS_BYTES 16
+#define LEGBARO_SHEET_BYTES 40
 
 /* Limits. The least of every number is 1, but the counter starts at 0. */
 #define LEGBARO_MOST_BLOCK_BYTES 4096 /* B */
@@ -144,6 +145,7 @@
 #define LEGBARO_OUTSIDE_WINDOWS 17    /* draw at a time that the plan does not allow */
 #define LEGBARO_CHANGE_PENDING 18     /* change, ask or draw while a change is pending */
 #define LEGBARO_NONE_PENDING 19       /* commit or drop while none is */
+#define LEGBARO_TOO_MANY_DAMAGED 21   /* a sheet for more damaged rows than there are rows */
 
 /* The two parts of a result: the code, and the number, which is a token with LEGBARO_BAD_RECORD. */
 #define LEGBARO_CODE(result) ((result) % 256)

@@ -34,10 +34,11 @@ static const struct {
     [PROVE] = {"prove", BIT(MESSAGE) | BIT(BLOCKS) | BIT(MARKS) | BIT(TABLE) | BIT(REPLY) | BIT(TOTALS), BIT(REPLY) | BIT(TOTALS)},
     [POSITIONS] = {"positions", 0, 0},
     [WAIT] = {"wait", BIT(PLAN), 0},
+    [SHEET] = {"sheet", BIT(OUT), BIT(OUT)},
 };
 
 static const char *const roles[ROLES] = {"master", "id",        "blocks", "card",    "table", "second table", "old block",
-                                         "marks",  "new block", "items",  "message", "plan",  "reply",        "totals"};
+                                         "marks",  "new block", "items",  "message", "plan",  "reply",        "totals", "sheet"};
 
 static unsigned long counts[KINDS][LAST_CODE + 1];
 
@@ -69,6 +70,13 @@ enum kind asked(enum kind change)
 enum kind unasked(enum kind ask)
 {
     return is_ask(ask) ? (enum kind)(ask - ASK_UPDATE + UPDATE) : ask;
+}
+
+struct call call_sheet(uint64_t B, uint64_t d, uint64_t r, uint64_t t, uint64_t n, uint64_t m)
+{
+    struct call call = {.kind = SHEET, .B = B, .d = d, .r = r, .t = t, .n = n, .m = m};
+    call.lent[OUT] = buffer_blank(LEGBARO_SHEET_BYTES);
+    return call;
 }
 
 struct call call_copy(const struct call *call)

@@ -27,18 +27,19 @@ enum kind {
     PROVE,
     POSITIONS,
     WAIT,
+    SHEET,
     KINDS
 };
 
 /* The highest code of any call. */
-enum { LAST_CODE = LEGBARO_NONE_PENDING };
+enum { LAST_CODE = LEGBARO_TOO_MANY_DAMAGED };
 
-enum role { MASTER, ID, BLOCKS, CARD, TABLE, SECOND, OLD, MARKS, NEW, ITEMS, MESSAGE, PLAN, REPLY, TOTALS, ROLES };
+enum role { MASTER, ID, BLOCKS, CARD, TABLE, SECOND, OLD, MARKS, NEW, ITEMS, MESSAGE, PLAN, REPLY, TOTALS, OUT, ROLES };
 
 struct call {
     enum kind kind;
-    uint64_t version, B, d, r, t, n;   /* of a set-up; positions takes r, d and n */
-    uint64_t m;                        /* the block number of an update or a deletion, asked too */
+    uint64_t version, B, d, r, t, n;   /* of a set-up and of a sheet; positions takes r, d and n */
+    uint64_t m;                        /* the block number of an update or a deletion, asked too; the damaged rows of a sheet */
     uint64_t year, month, day, minute; /* of a draw and of a wait */
     struct buffer lent[ROLES];
 };
@@ -54,6 +55,9 @@ int is_change(enum kind kind);
 int is_ask(enum kind kind);
 enum kind asked(enum kind change);
 enum kind unasked(enum kind ask);
+
+/* A sheet with a buffer of its length. */
+struct call call_sheet(uint64_t B, uint64_t d, uint64_t r, uint64_t t, uint64_t n, uint64_t m);
 
 /* A copy of a call; and of a change, asked, with a second table of the first one's length. */
 struct call call_copy(const struct call *call);

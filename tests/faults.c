@@ -63,6 +63,8 @@ static struct call faultless(enum kind kind)
         return (struct call){.kind = POSITIONS, .r = R, .d = D, .n = N};
     if (kind == WAIT)
         return open_wait();
+    if (kind == SHEET)
+        return call_sheet(B, D, R, T, N, D);
     if (kind == LOAD)
         return file_load_call(&changing, LOADED);
     if (kind == BATCH)

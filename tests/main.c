@@ -68,6 +68,7 @@ int main(int count, char **words)
     test_totals();
     test_causes();
     test_plans();
+    test_sheets();
     test_times();
     test_lists(options.lists);
     if (!options.exact) {

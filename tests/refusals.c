@@ -123,6 +123,16 @@ static void too_many_positions(void)
     call_finish(&call, LEGBARO_TOO_MANY_POSITIONS, "513 positions");
 }
 
+/* Code 21's small input: d 5, m 6. */
+static void too_many_damaged(void)
+{
+    struct call call = call_sheet(B, D, R, T, D, D + 1);
+    call_finish(&call, LEGBARO_TOO_MANY_DAMAGED, "d 5, m 6");
+
+    call = call_sheet(B, D, R, T, D, D);
+    call_finish(&call, LEGBARO_OK, "d 5, m 5");
+}
+
 /* Codes 16 and 17's small inputs: 31 November, minute 1,440, a draw with no window. */
 static void broken_hours(const struct file *file)
 {
@@ -258,6 +268,7 @@ static void small_inputs(uint64_t version)
     file_end(&file);
     outside_limits(version);
     too_many_positions();
+    too_many_damaged();
     most_items(version);
     last_token_drawn(version);
     two_steps(version);

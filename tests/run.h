@@ -48,6 +48,8 @@
         return before##_prove##behind(LENT(MESSAGE), LENT(BLOCKS), LENT(MARKS), LENT(TABLE), LENT(REPLY), LENT(TOTALS));       \
     case WAIT:                                                                                                                 \
         return before##_wait##behind(LENT(PLAN), LENT_TIME);                                                                   \
+    case SHEET:                                                                                                                \
+        return before##_sheet##behind(call->B, call->d, call->r, call->t, call->n, call->m, LENT(OUT));                        \
     default:                                                                                                                   \
         return before##_positions##behind(call->r, call->d, call->n);                                                          \
     }

@@ -8,7 +8,7 @@
  *   second_asks.c          the same asked; commit, drop
  *   second_batches.c       the items of a batch
  *   second_audits.c        set-up, draw, judge, cause, the host's proof
- *   second_plans.c         positions
+ *   second_plans.c         positions, sheet
  *   second_times.c         the calendar, windows, wait
  */
 #ifndef SECOND_PARTS_H

@@ -60,6 +60,7 @@ static void stack_of_calls(uint64_t version)
     expect_small(file_call(&file, DROP));
     expect_small(file_call(&file, DRAW));
     expect_small(file_call(&file, WAIT));
+    expect_small(call_sheet(512, 64, 64, 2, 64, 1));
     file_do(&file, DRAW);
     expect_small(file_call(&file, PROVE));
     expect_small(file_call(&file, JUDGE));

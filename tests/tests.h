@@ -44,6 +44,9 @@ void test_causes(void);
 /* How many positions to draw of planned rows. */
 void test_plans(void);
 
+/* Planning sheets: beside exact fractions, beside all draws of small files, at every edge. */
+void test_sheets(void);
+
 /* Every date of a hundred years, the wait for a window, and draws in and outside windows. */
 void test_times(void);
 

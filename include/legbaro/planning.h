@@ -26,6 +26,30 @@ extern "C" {
  */
 uint64_t legbaro_positions(uint64_t positions, uint64_t planned, uint64_t present);
 
+/*
+ * Sheet, for who plans a file: what to quote before a survey, from the numbers of a set-up alone.
+ *
+ *   block_bytes, rows, positions, tokens, blocks_count   B, d, r, t and n, as for a set-up
+ *   damaged    how many of the rows are lost at the host, or altered: 0 to rows
+ *   out        LEGBARO_SHEET_BYTES, written: five numbers of 8 bytes, big-endian, at the offsets below
+ *
+ * The hashes of a proof are the blocks that the host reads for it. The two numbers are the same where all rows have equally many blocks.
+ * The chance of escape is the chance that one audit, which draws `positions` different rows, draws none of the damaged ones. The figure is
+ * never under the exact chance, and less than `positions` units above it. It is 0 exactly where some damaged row is always drawn, and
+ * LEGBARO_ESCAPE_ONE, a chance of 1, with no row damaged.
+ * Codes: 1 (out), 3, 21.
+ */
+uint64_t legbaro_sheet(uint64_t block_bytes, uint64_t rows, uint64_t positions, uint64_t tokens, uint64_t blocks_count,
+                       uint64_t damaged,
+                       uint8_t *out, size_t out_length);
+
+#define LEGBARO_SHEET_TABLE 0   /* the bytes of the table, which the host keeps beside the blocks */
+#define LEGBARO_SHEET_TURNS 8   /* a ceiling on the turns of the permutation that one token takes, whatever its key */
+#define LEGBARO_SHEET_LEAST 16  /* the least hashes of blocks for one proof, whatever rows it draws */
+#define LEGBARO_SHEET_MOST 24   /* the most */
+#define LEGBARO_SHEET_ESCAPE 32 /* the chance of escape, in units of 2^-32: divided by LEGBARO_ESCAPE_ONE it is the chance */
+#define LEGBARO_ESCAPE_ONE 4294967296u
+
 #ifdef __cplusplus
 }
 #endif

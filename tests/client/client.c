@@ -17,7 +17,7 @@ static const uint8_t items[2 * LEGBARO_ITEM_BYTES(LEGBARO_TWO_STEPS, B)] = {
     LEGBARO_ITEM_UPDATE, 0, 0, 0, 2, 0, 0, 0, 0, LEGBARO_LIVE, 0, 0, 0, 0, LEGBARO_ITEM_DELETE, 0, 0, 0, 3};
 static const uint8_t plan[LEGBARO_PLAN_BYTES] = {0, 0, 0, 1};
 static uint8_t blocks[(D + 2) * B], card[LEGBARO_TWO_STEP_CARD_BYTES], table[T * LEGBARO_RECORD_BYTES], second[T * LEGBARO_RECORD_BYTES];
-static uint8_t message[LEGBARO_MESSAGE_BYTES], reply[LEGBARO_REPLY_BYTES], totals[LEGBARO_TOTALS_BYTES];
+static uint8_t message[LEGBARO_MESSAGE_BYTES], reply[LEGBARO_REPLY_BYTES], totals[LEGBARO_TOTALS_BYTES], sheet[LEGBARO_SHEET_BYTES];
 
 /* Each answers the numbers of its calls in one, which is 0 where all were accepted. */
 static uint64_t changes(void)
@@ -66,5 +66,6 @@ int main(void)
     numbers |= asks();
     numbers |= audit();
     numbers |= LEGBARO_CODE(legbaro_positions(R, D, D - 1));
+    numbers |= legbaro_sheet(B, D, R, T, D - 1, 1, LENT(sheet));
     return numbers == LEGBARO_OK ? 0 : 1;
 }

@@ -1,0 +1,5 @@
+pub mod ChanceLaws
+pub mod RowLaws
+pub mod CallLaws
+pub mod Theorems
+pub mod Worked

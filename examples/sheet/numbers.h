@@ -1,0 +1,33 @@
+/* The numbers of a planned file, the sheet that the library gives for them, and numbers in words. */
+#ifndef NUMBERS_H
+#define NUMBERS_H
+
+#include <stddef.h>
+#include <stdint.h>
+
+#include "legbaro.h"
+
+/* Paper letters B, d, r, t, n and m. */
+struct numbers {
+    uint64_t block_bytes, rows, positions, tokens, blocks, damaged;
+};
+
+struct sheet {
+    uint64_t table, turns, least, most, escape;
+};
+
+/* Asks the library; answers its code, and the sheet where that is LEGBARO_OK. */
+uint64_t sheet_of(const struct numbers *of, struct sheet *sheet);
+
+/* The chance of escape for other positions and damaged rows of the same file, in units of 2^-32. */
+uint64_t escape_of(const struct numbers *of, uint64_t positions, uint64_t damaged);
+
+/* The most positions that the file's rows allow. */
+uint64_t most_positions(const struct numbers *of);
+
+/* A number with commas, and a chance in thousandths of a percent, rounded up, so that it is never under the exact one either. Each is good
+ * until sixteen further ones were asked for. */
+const char *grouped(uint64_t number);
+const char *percent(uint64_t escape);
+
+#endif
