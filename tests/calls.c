@@ -4,8 +4,8 @@
 #include "groups.h"
 #include "run.h"
 
-/* The buffers of each kind of call, a bit for each role, and those among them that it writes. */
-#define BIT(role) (1u << (role))
+/* The buffers that each kind of call is lent, a bit for each, and those among them that it writes. */
+#define BIT(argument) (1u << (argument))
 #define CHANGE (BIT(MASTER) | BIT(CARD) | BIT(TABLE) | BIT(TOTALS))
 #define ASK (CHANGE | BIT(SECOND))
 #define CHANGED (BIT(CARD) | BIT(TABLE) | BIT(TOTALS))
@@ -37,8 +37,8 @@ static const struct {
     [SHEET] = {"sheet", BIT(OUT), BIT(OUT)},
 };
 
-static const char *const roles[ROLES] = {"master", "id",        "blocks", "card",    "table", "second table", "old block",
-                                         "marks",  "new block", "items",  "message", "plan",  "reply",        "totals", "sheet"};
+static const char *const arguments[ARGUMENTS] = {"master", "id",        "blocks", "card",    "table", "second table", "old block",
+                                                 "marks",  "new block", "items",  "message", "plan",  "reply",        "totals", "sheet"};
 
 static unsigned long counts[KINDS][LAST_CODE + 1];
 
@@ -47,9 +47,9 @@ const char *call_name(enum kind kind)
     return kinds[kind].name;
 }
 
-int call_takes(enum kind kind, enum role role)
+int call_takes(enum kind kind, enum argument argument)
 {
-    return (kinds[kind].takes & BIT(role)) != 0;
+    return (kinds[kind].takes & BIT(argument)) != 0;
 }
 
 int is_change(enum kind kind)
@@ -82,8 +82,8 @@ struct call call_sheet(uint64_t B, uint64_t d, uint64_t r, uint64_t t, uint64_t 
 struct call call_copy(const struct call *call)
 {
     struct call other = *call;
-    for (int role = 0; role < ROLES; role++)
-        other.lent[role] = buffer_copy(&call->lent[role]);
+    for (int argument = 0; argument < ARGUMENTS; argument++)
+        other.lent[argument] = buffer_copy(&call->lent[argument]);
     return other;
 }
 
@@ -97,8 +97,8 @@ struct call call_asked(const struct call *change)
 
 void call_free(struct call *call)
 {
-    for (int role = 0; role < ROLES; role++)
-        buffer_free(&call->lent[role]);
+    for (int argument = 0; argument < ARGUMENTS; argument++)
+        buffer_free(&call->lent[argument]);
 }
 
 uint64_t call_library(struct call *call)
@@ -112,12 +112,12 @@ uint64_t call_second(struct call *call)
 }
 
 /* What is expected of one buffer after a call: `ours` after the library, `theirs` after the second implementation, `before`. */
-static void compare_buffer(enum kind kind, enum role role, int written, const struct buffer *ours, const struct buffer *theirs,
+static void compare_buffer(enum kind kind, enum argument argument, int written, const struct buffer *ours, const struct buffer *theirs,
                            const struct buffer *before)
 {
-    expect(buffer_same(ours, theirs), "%s: the second implementation's %s", kinds[kind].name, roles[role]);
-    expect(written || buffer_same(ours, before), "%s: the %s as it was", kinds[kind].name, roles[role]);
-    expect(buffer_guarded(ours), "%s: nothing written around the %s", kinds[kind].name, roles[role]);
+    expect(buffer_same(ours, theirs), "%s: the second implementation's %s", kinds[kind].name, arguments[argument]);
+    expect(written || buffer_same(ours, before), "%s: the %s as it was", kinds[kind].name, arguments[argument]);
+    expect(buffer_guarded(ours), "%s: nothing written around the %s", kinds[kind].name, arguments[argument]);
 }
 
 uint64_t call_compare_by(uint64_t (*run)(struct call *), struct call *call)
@@ -130,10 +130,10 @@ uint64_t call_compare_by(uint64_t (*run)(struct call *), struct call *call)
         counts[call->kind][LEGBARO_CODE(number)]++;
     expect(number == expected, "%s: number %llu, not %llu", kinds[call->kind].name, (unsigned long long)expected,
            (unsigned long long)number);
-    for (int role = 0; role < ROLES; role++)
-        if (call_takes(call->kind, role)) {
-            int written = !refused && (kinds[call->kind].writes & BIT(role));
-            compare_buffer(call->kind, role, written, &call->lent[role], &other.lent[role], &before.lent[role]);
+    for (int argument = 0; argument < ARGUMENTS; argument++)
+        if (call_takes(call->kind, argument)) {
+            int written = !refused && (kinds[call->kind].writes & BIT(argument));
+            compare_buffer(call->kind, argument, written, &call->lent[argument], &other.lent[argument], &before.lent[argument]);
         }
     call_free(&before);
     call_free(&other);

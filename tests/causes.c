@@ -142,10 +142,10 @@ static void every_set(const struct file *file)
 /* ---- What hosts do ---- */
 
 /* The host's proof from the message drawn last, with one byte of a buffer altered. */
-static struct buffer proved_with(const struct file *file, enum role role, size_t at)
+static struct buffer proved_with(const struct file *file, enum argument argument, size_t at)
 {
     struct call proof = file_call(file, PROVE);
-    proof.lent[role].bytes[at] ^= 1;
+    proof.lent[argument].bytes[at] ^= 1;
     call_expect(&proof, LEGBARO_OK, "accepted");
     struct buffer reply = buffer_copy(&proof.lent[REPLY]);
     call_free(&proof);

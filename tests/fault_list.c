@@ -1,10 +1,10 @@
 /* See fault_list.h. */
 #include "fault_list.h"
 
-/* What a fault alters: the length of a buffer, which is named by its role, a number, a field of card, message or items, what is pending, a
- * mark, or record 2. */
+/* What a fault alters: the length of a buffer, which is named as the argument is, a number, a field of card, message or items, what is
+ * pending, a mark, or record 2. */
 enum target {
-    NUMBER_VERSION = ROLES,
+    NUMBER_VERSION = ARGUMENTS,
     NUMBER_B,
     NUMBER_D,
     NUMBER_R,
@@ -49,11 +49,11 @@ enum target {
     TARGETS
 };
 
-#define LENGTH_OF(role) ((enum target)(role))
+#define LENGTH_OF(argument) ((enum target)(argument))
 
 /* Where a field is; of items, which are three, in which of them. */
 static const struct {
-    enum role role;
+    enum argument argument;
     size_t item, at;
     unsigned width;
 } fields[TARGETS] = {
@@ -114,8 +114,8 @@ static const struct {
 enum { NOTHING, LAST_ISSUED, COUNTER_ALONE, BLOCKS_ALONE, BELOW_LAST, ABOVE_LAST, FEWER_BLOCKS, TOO_MANY_BLOCKS };
 enum { NO_BYTES, ONE_LESS, ONE_MORE, ONE_ITEM_TOO_MANY, OTHER_CARD };
 
-#define TOO_SHORT(kinds, place, role) {kinds, place, LENGTH_OF(role), NO_BYTES}, {kinds, place, LENGTH_OF(role), ONE_LESS}
-#define WRONG_LENGTH(kinds, place, role) TOO_SHORT(kinds, place, role), {kinds, place, LENGTH_OF(role), ONE_MORE}
+#define TOO_SHORT(kinds, place, argument) {kinds, place, LENGTH_OF(argument), NO_BYTES}, {kinds, place, LENGTH_OF(argument), ONE_LESS}
+#define WRONG_LENGTH(kinds, place, argument) TOO_SHORT(kinds, place, argument), {kinds, place, LENGTH_OF(argument), ONE_MORE}
 
 /* `next` stands before `open`, what is pending behind other fields of the card, and lengths are last. */
 const struct fault faults[] = {
@@ -310,7 +310,7 @@ static void make_pending(struct buffer *card, uint64_t value)
 
 static void make_field_fault(struct call *call, const struct fault *fault, uint64_t version)
 {
-    struct buffer *b = &call->lent[fields[fault->target].role];
+    struct buffer *b = &call->lent[fields[fault->target].argument];
     uint64_t value = fault->value;
     if (fault->target == CARD_OPEN && value == BEFORE_NEXT)
         value = buffer_number(b, LEGBARO_CARD_NEXT, 4) - 1;
@@ -322,7 +322,7 @@ void fault_make(struct call *call, const struct fault *fault, uint64_t version)
 {
     uint64_t *const numbers[] = {&call->version, &call->B,    &call->d,     &call->r,   &call->t,     &call->n,
                                  &call->m,       &call->year, &call->month, &call->day, &call->minute};
-    if (fault->target < LENGTH_OF(ROLES))
+    if (fault->target < LENGTH_OF(ARGUMENTS))
         make_length_fault(&call->lent[fault->target], fault->value, version);
     else if (fault->target <= NUMBER_MINUTE)
         *numbers[fault->target - NUMBER_VERSION] = fault->value;

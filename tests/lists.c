@@ -76,8 +76,8 @@ static void disturb_hours(struct call *call)
 /* Something wrong in what a list may hold: anything lent but card and table, the master's bytes and a block's present bytes and mark. */
 static void disturb(const struct file *file, struct call *call)
 {
-    static const enum role lent[] = {MASTER, SECOND, OLD, MARKS, NEW, BLOCKS, ITEMS, MESSAGE, PLAN, REPLY, TOTALS};
-    enum role role = lent[chance_below(COUNT(lent))];
+    static const enum argument lent[] = {MASTER, SECOND, OLD, MARKS, NEW, BLOCKS, ITEMS, MESSAGE, PLAN, REPLY, TOTALS};
+    enum argument argument = lent[chance_below(COUNT(lent))];
     if (unasked(call->kind) == BATCH && chance_of(2))
         disturb_item(file, &call->lent[ITEMS]);
     else if (call->kind == DRAW && chance_of(2))
@@ -88,8 +88,8 @@ static void disturb(const struct file *file, struct call *call)
         call->m = no_such_block(file);
     else if (call->kind == JUDGE && chance_of(2))
         flip_any_bit(&call->lent[REPLY]);
-    else if (call_takes(call->kind, role))
-        wrong_length(&call->lent[role]);
+    else if (call_takes(call->kind, argument))
+        wrong_length(&call->lent[argument]);
 }
 
 /* Which call comes next, of a change whether or not it is asked: a drawn token is mostly judged, what is pending is mostly committed or
@@ -180,13 +180,13 @@ static void aside(const struct file *file)
 {
     struct call call = file_call(file, (enum kind)(UPDATE + chance_below(PROVE + 1 - UPDATE)));
     for (uint64_t faults = 1 + chance_below(2); faults; faults--) {
-        enum role role = (enum role)chance_below(ROLES);
-        if (!call_takes(call.kind, role))
+        enum argument argument = (enum argument)chance_below(ARGUMENTS);
+        if (!call_takes(call.kind, argument))
             continue;
         if (chance_of(3))
-            wrong_length(&call.lent[role]);
+            wrong_length(&call.lent[argument]);
         else
-            flip_any_bit(&call.lent[role]);
+            flip_any_bit(&call.lent[argument]);
     }
     call_compare(&call);
     call_free(&call);

@@ -3,7 +3,7 @@
 #define RUN_H
 
 /* A buffer and a time as C passes them. */
-#define LENT(role) call->lent[role].bytes, call->lent[role].length
+#define LENT(argument) call->lent[argument].bytes, call->lent[argument].length
 #define LENT_TIME call->year, call->month, call->day, call->minute
 
 #define RUN(before, behind)                                                                                                    \
