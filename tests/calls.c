@@ -4,37 +4,40 @@
 #include "groups.h"
 #include "run.h"
 
-/* The buffers that each kind of call is lent, a bit for each, and those among them that it writes. */
+/* The buffers that each kind of call is lent, a bit for each, those among them that it writes, and the roles that may make it. */
 #define BIT(argument) (1u << (argument))
 #define CHANGE (BIT(MASTER) | BIT(CARD) | BIT(TABLE) | BIT(TOTALS))
 #define ASK (CHANGE | BIT(SECOND))
 #define CHANGED (BIT(CARD) | BIT(TABLE) | BIT(TOTALS))
 #define ASKED (BIT(CARD) | BIT(SECOND) | BIT(TOTALS))
+#define PLANNER BIT(LEGBARO_PLANNER)
+#define SURVEYOR_TOO (PLANNER | BIT(LEGBARO_SURVEYOR))
+#define MANAGER_TOO (PLANNER | BIT(LEGBARO_MANAGER))
 
 static const struct {
     const char *name;
-    unsigned takes, writes;
+    unsigned takes, writes, roles;
 } kinds[KINDS] = {
-    [SET_UP] = {"set-up", CHANGE | BIT(ID) | BIT(BLOCKS), CHANGED},
-    [UPDATE] = {"update", CHANGE | BIT(OLD) | BIT(MARKS) | BIT(NEW), CHANGED},
-    [DELETE] = {"delete", CHANGE | BIT(OLD) | BIT(MARKS), CHANGED},
-    [APPEND] = {"append", CHANGE | BIT(NEW), CHANGED},
-    [LOAD] = {"load", CHANGE | BIT(BLOCKS), CHANGED},
-    [BATCH] = {"batch", CHANGE | BIT(ITEMS), CHANGED},
-    [ASK_UPDATE] = {"ask update", ASK | BIT(OLD) | BIT(MARKS) | BIT(NEW), ASKED},
-    [ASK_DELETE] = {"ask delete", ASK | BIT(OLD) | BIT(MARKS), ASKED},
-    [ASK_APPEND] = {"ask append", ASK | BIT(NEW), ASKED},
-    [ASK_LOAD] = {"ask load", ASK | BIT(BLOCKS), ASKED},
-    [ASK_BATCH] = {"ask batch", ASK | BIT(ITEMS), ASKED},
-    [COMMIT] = {"commit", BIT(CARD), BIT(CARD)},
-    [DROP] = {"drop", BIT(CARD), BIT(CARD)},
-    [DRAW] = {"draw", BIT(MASTER) | BIT(CARD) | BIT(MESSAGE) | BIT(PLAN), BIT(CARD) | BIT(MESSAGE)},
-    [JUDGE] = {"judge", BIT(MASTER) | BIT(CARD) | BIT(REPLY), BIT(CARD)},
-    [CAUSE] = {"cause", BIT(MASTER) | BIT(CARD) | BIT(REPLY), 0},
-    [PROVE] = {"prove", BIT(MESSAGE) | BIT(BLOCKS) | BIT(MARKS) | BIT(TABLE) | BIT(REPLY) | BIT(TOTALS), BIT(REPLY) | BIT(TOTALS)},
-    [POSITIONS] = {"positions", 0, 0},
-    [WAIT] = {"wait", BIT(PLAN), 0},
-    [SHEET] = {"sheet", BIT(OUT), BIT(OUT)},
+    [SET_UP] = {"set-up", CHANGE | BIT(ID) | BIT(BLOCKS), CHANGED, 0},
+    [UPDATE] = {"update", CHANGE | BIT(OLD) | BIT(MARKS) | BIT(NEW), CHANGED, PLANNER},
+    [DELETE] = {"delete", CHANGE | BIT(OLD) | BIT(MARKS), CHANGED, PLANNER},
+    [APPEND] = {"append", CHANGE | BIT(NEW), CHANGED, SURVEYOR_TOO},
+    [LOAD] = {"load", CHANGE | BIT(BLOCKS), CHANGED, SURVEYOR_TOO},
+    [BATCH] = {"batch", CHANGE | BIT(ITEMS), CHANGED, PLANNER},
+    [ASK_UPDATE] = {"ask update", ASK | BIT(OLD) | BIT(MARKS) | BIT(NEW), ASKED, PLANNER},
+    [ASK_DELETE] = {"ask delete", ASK | BIT(OLD) | BIT(MARKS), ASKED, PLANNER},
+    [ASK_APPEND] = {"ask append", ASK | BIT(NEW), ASKED, SURVEYOR_TOO},
+    [ASK_LOAD] = {"ask load", ASK | BIT(BLOCKS), ASKED, SURVEYOR_TOO},
+    [ASK_BATCH] = {"ask batch", ASK | BIT(ITEMS), ASKED, PLANNER},
+    [COMMIT] = {"commit", BIT(CARD), BIT(CARD), PLANNER},
+    [DROP] = {"drop", BIT(CARD), BIT(CARD), PLANNER},
+    [DRAW] = {"draw", BIT(MASTER) | BIT(CARD) | BIT(MESSAGE) | BIT(PLAN), BIT(CARD) | BIT(MESSAGE), MANAGER_TOO},
+    [JUDGE] = {"judge", BIT(MASTER) | BIT(CARD) | BIT(REPLY), BIT(CARD), MANAGER_TOO},
+    [CAUSE] = {"cause", BIT(MASTER) | BIT(CARD) | BIT(REPLY), 0, MANAGER_TOO},
+    [PROVE] = {"prove", BIT(MESSAGE) | BIT(BLOCKS) | BIT(MARKS) | BIT(TABLE) | BIT(REPLY) | BIT(TOTALS), BIT(REPLY) | BIT(TOTALS), 0},
+    [POSITIONS] = {"positions", 0, 0, 0},
+    [WAIT] = {"wait", BIT(PLAN), 0, 0},
+    [SHEET] = {"sheet", BIT(OUT), BIT(OUT), 0},
 };
 
 static const char *const arguments[ARGUMENTS] = {"master", "id",        "blocks", "card",    "table", "second table", "old block",
@@ -50,6 +53,11 @@ const char *call_name(enum kind kind)
 int call_takes(enum kind kind, enum argument argument)
 {
     return (kinds[kind].takes & BIT(argument)) != 0;
+}
+
+int call_permits(enum kind kind, uint64_t role)
+{
+    return role <= LEGBARO_MANAGER && (kinds[kind].roles & BIT(role)) != 0;
 }
 
 int is_change(enum kind kind)

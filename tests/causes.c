@@ -54,7 +54,7 @@ static struct file drawn(uint64_t version)
 /* The cause of a reply, which is compared; and judge accepts exactly where there is none. */
 static uint64_t cause_of(const struct file *file, const struct buffer *reply)
 {
-    struct call cause = {.kind = CAUSE};
+    struct call cause = {.kind = CAUSE, .role = any_permitted(CAUSE)};
     cause.lent[MASTER] = buffer_copy(&file->master);
     cause.lent[CARD] = buffer_copy(&file->card);
     cause.lent[REPLY] = buffer_copy(reply);

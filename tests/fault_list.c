@@ -15,6 +15,7 @@ enum target {
     NUMBER_MONTH,
     NUMBER_DAY,
     NUMBER_MINUTE,
+    NUMBER_ROLE,
     CARD_LENGTH,
     CARD_VERSION,
     CARD_B,
@@ -119,6 +120,12 @@ enum { NO_BYTES, ONE_LESS, ONE_MORE, ONE_ITEM_TOO_MANY, OTHER_CARD };
 
 /* `next` stands before `open`, what is pending behind other fields of the card, and lengths are last. */
 const struct fault faults[] = {
+    {READ_CARD, RIGHT, NUMBER_ROLE, 0},
+    {READ_CARD, RIGHT, NUMBER_ROLE, LEGBARO_MANAGER + 1},
+    {READ_CARD, RIGHT, NUMBER_ROLE, (UINT64_C(1) << 32) + LEGBARO_PLANNER},
+    {READ_CARD, RIGHT, NUMBER_ROLE, UINT64_MAX},
+    {READ_CARD & ~(EITHER(APPEND) | EITHER(LOAD)), RIGHT, NUMBER_ROLE, LEGBARO_SURVEYOR},
+    {CHANGES | SETTLING, RIGHT, NUMBER_ROLE, LEGBARO_MANAGER},
     {IN(SET_UP), LIMITS, NUMBER_VERSION, 0},
     {IN(SET_UP), LIMITS, NUMBER_VERSION, LEGBARO_TWO_STEPS + 1},
     {IN(SET_UP), LIMITS, NUMBER_VERSION, 256 + LEGBARO_WITH_MARKS},
@@ -321,10 +328,10 @@ static void make_field_fault(struct call *call, const struct fault *fault, uint6
 void fault_make(struct call *call, const struct fault *fault, uint64_t version)
 {
     uint64_t *const numbers[] = {&call->version, &call->B,    &call->d,     &call->r,   &call->t,     &call->n,
-                                 &call->m,       &call->year, &call->month, &call->day, &call->minute};
+                                 &call->m,       &call->year, &call->month, &call->day, &call->minute, &call->role};
     if (fault->target < LENGTH_OF(ARGUMENTS))
         make_length_fault(&call->lent[fault->target], fault->value, version);
-    else if (fault->target <= NUMBER_MINUTE)
+    else if (fault->target <= NUMBER_ROLE)
         *numbers[fault->target - NUMBER_VERSION] = fault->value;
     else if (fault->target == TAG_OF_RECORD_2)
         buffer_flip(&call->lent[TABLE], 8 * (2 * LEGBARO_RECORD_BYTES - 1));
@@ -337,6 +344,7 @@ void fault_make(struct call *call, const struct fault *fault, uint64_t version)
 uint64_t fault_number(enum place place, enum kind kind)
 {
     const uint64_t numbers[] = {
+        [RIGHT] = LEGBARO_NO_RIGHT,
         [TIME] = LEGBARO_BAD_TIME,
         [FIXED_SIZE] = LEGBARO_WRONG_LENGTH,
         [HEADER] = LEGBARO_WRONG_HEADER,

@@ -73,6 +73,13 @@ static void disturb_hours(struct call *call)
     call_at(call, &when);
 }
 
+/* Any role, with a right or without, or a number that is none. */
+static uint64_t any_role(void)
+{
+    static const uint64_t roles[] = {0, LEGBARO_SURVEYOR, LEGBARO_PLANNER, LEGBARO_MANAGER, LEGBARO_MANAGER + 1, UINT64_MAX};
+    return chance_of(8) ? chance() : roles[chance_below(COUNT(roles))];
+}
+
 /* Something wrong in what a list may hold: anything lent but card and table, the master's bytes and a block's present bytes and mark. */
 static void disturb(const struct file *file, struct call *call)
 {
@@ -171,14 +178,19 @@ static void step(struct file *file, struct nonces *nonces)
     enum kind kind = call.kind;
     if (chance_of(4))
         disturb(file, &call);
+    if (chance_of(8))
+        call.role = any_role();
     if (file_run(file, &call) == LEGBARO_OK && (is_change(kind) || is_ask(kind)))
         seal_once(nonces, is_ask(kind) ? &file->asked : &file->table, &file->book.numbers);
 }
 
-/* A call beside the list, on copies: any kind, with some bytes or lengths of any buffer altered. The book knows nothing of it. */
+/* A call beside the list, on copies: any kind, with some bytes or lengths of any buffer altered, at times by any role. The book knows nothing
+ * of it. */
 static void aside(const struct file *file)
 {
     struct call call = file_call(file, (enum kind)(UPDATE + chance_below(PROVE + 1 - UPDATE)));
+    if (chance_of(8))
+        call.role = any_role();
     for (uint64_t faults = 1 + chance_below(2); faults; faults--) {
         enum argument argument = (enum argument)chance_below(ARGUMENTS);
         if (!call_takes(call.kind, argument))
