@@ -227,8 +227,8 @@ static void print_whole(const char *way, uint64_t (*run)(struct call *), const s
     struct call own = call_copy(call);
     printf("%s: %.1f s\n", way, timed(run, &own, 1, 1) / 1e9);
     fflush(stdout);
-    for (int role = 0; before->lent[CARD].bytes && role < ROLES; role++)
-        expect(!call_takes(SET_UP, role) || buffer_same(&own.lent[role], &before->lent[role]), "%s: the same bytes", way);
+    for (int argument = 0; before->lent[CARD].bytes && argument < ARGUMENTS; argument++)
+        expect(!call_takes(SET_UP, argument) || buffer_same(&own.lent[argument], &before->lent[argument]), "%s: the same bytes", way);
     call_free(before);
     *before = own;
 }

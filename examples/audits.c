@@ -29,12 +29,12 @@ uint64_t host_proves(void)
 
 /* ---- The owner ---- */
 
-uint64_t owner_draws(const struct moment *now)
+uint64_t owner_draws(uint64_t role, const struct moment *now)
 {
     struct bytes master = read_file("owner/master"), card = read_file("owner/card"), plan = read_file("owner/plan");
     struct bytes message = room(LEGBARO_MESSAGE_BYTES);
     uint64_t result =
-        legbaro_draw(LENT(master), LENT(card), LENT(message), LENT(plan), now->year, now->month, now->day, now->minute);
+        legbaro_draw(role, LENT(master), LENT(card), LENT(message), LENT(plan), now->year, now->month, now->day, now->minute);
     if (result == LEGBARO_OK) {
         store_card(card);
         write_file("host/message", LENT(message));
@@ -54,20 +54,20 @@ uint64_t owner_waits(const struct moment *now)
     return result;
 }
 
-uint64_t owner_asks_cause(void)
+uint64_t owner_asks_cause(uint64_t role)
 {
     struct bytes master = read_file("owner/master"), card = read_file("owner/card"), reply = read_file("host/reply");
-    uint64_t result = legbaro_cause(LENT(master), LENT(card), LENT(reply));
+    uint64_t result = legbaro_cause(role, LENT(master), LENT(card), LENT(reply));
     free(master.at);
     free(card.at);
     free(reply.at);
     return result;
 }
 
-uint64_t owner_judges(void)
+uint64_t owner_judges(uint64_t role)
 {
     struct bytes master = read_file("owner/master"), card = read_file("owner/card"), reply = read_file("host/reply");
-    uint64_t result = legbaro_judge(LENT(master), LENT(card), LENT(reply));
+    uint64_t result = legbaro_judge(role, LENT(master), LENT(card), LENT(reply));
     store_card(card);
     free(master.at);
     free(card.at);

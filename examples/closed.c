@@ -17,7 +17,7 @@ static void set_up(uint64_t version)
     free(week.at);
     tell("the owner sets up with a week's blocks:", owner_sets_up(&plan), LEGBARO_OK);
     wipe("owner/blocks");
-    tell("deletion of a block that may no longer be kept:", owner_deletes(EXPIRED), LEGBARO_OK);
+    tell("deletion of a block that may no longer be kept:", owner_deletes(LEGBARO_PLANNER, EXPIRED), LEGBARO_OK);
     tell_files("host");
 }
 

@@ -44,9 +44,9 @@ static void rest_of_the_month(void)
     cut.length -= BAYS / 2;
     puts("\nTHE REST OF THE MONTH IN ONE LOAD");
     printf("  The centre holds %d samples back and sends them together.\n", HELD_BACK);
-    tell("half of the last sample is missing:", owner_loads(cut), LEGBARO_NOT_WHOLE_BLOCKS);
+    tell("the surveyor loads them, half of the last is missing:", owner_loads(LEGBARO_SURVEYOR, cut), LEGBARO_NOT_WHOLE_BLOCKS);
     tell_card();
-    tell("all samples, whole:", owner_loads(held_back), LEGBARO_OK);
+    tell("the surveyor loads them all, whole:", owner_loads(LEGBARO_SURVEYOR, held_back), LEGBARO_OK);
     tell_card();
     tell_files("host");
     puts("  The table was fetched, sealed again and sent back once.");

@@ -32,10 +32,11 @@ void morning(void)
         corrections[i].number = found[i];
         corrections[i].block = is_expired(found[i]) ? none : samples(bays, (unsigned)found[i] + 1, 1);
     }
-    tell("ten updates and two deletions as they were found:", owner_corrects(corrections, CORRECTIONS), LEGBARO_BAD_BATCH);
+    tell("ten updates and two deletions as they were found:", owner_corrects(LEGBARO_PLANNER, corrections, CORRECTIONS),
+         LEGBARO_BAD_BATCH);
     puts("  The block numbers of a batch rise. Nothing has changed.");
     qsort(corrections, CORRECTIONS, sizeof *corrections, by_number);
-    tell("the same in the order of their blocks:", owner_corrects(corrections, CORRECTIONS), LEGBARO_OK);
+    tell("the same in the order of their blocks:", owner_corrects(LEGBARO_PLANNER, corrections, CORRECTIONS), LEGBARO_OK);
     tell_card();
     puts("  Twelve corrections are one change: the table was fetched, sealed again and sent back once.");
     draw();

@@ -160,26 +160,27 @@ static void owner_puts_back(struct hand *hand, uint64_t result)
 }
 
 /* Append or load: the same arguments, and the blocks come behind the last one either way. */
-typedef uint64_t adding(const uint8_t *, size_t, uint8_t *, size_t, uint8_t *, size_t, const uint8_t *, size_t, uint8_t *, size_t);
+typedef uint64_t adding(uint64_t, const uint8_t *, size_t, uint8_t *, size_t, uint8_t *, size_t, const uint8_t *, size_t, uint8_t *,
+                        size_t);
 
-static uint64_t owner_adds(adding *call, struct bytes blocks)
+static uint64_t owner_adds(adding *call, uint64_t role, struct bytes blocks)
 {
     struct hand hand = owner_takes();
-    uint64_t result = call(LENT(hand.master), LENT(hand.card), LENT(hand.table), LENT(blocks), LENT(hand.totals));
+    uint64_t result = call(role, LENT(hand.master), LENT(hand.card), LENT(hand.table), LENT(blocks), LENT(hand.totals));
     if (result == LEGBARO_OK)
         host_adds(blocks, in_card(LEGBARO_CARD_BLOCK_BYTES, 2));
     owner_puts_back(&hand, result);
     return result;
 }
 
-uint64_t owner_appends(struct bytes block)
+uint64_t owner_appends(uint64_t role, struct bytes block)
 {
-    return owner_adds(legbaro_append, block);
+    return owner_adds(legbaro_append, role, block);
 }
 
-uint64_t owner_loads(struct bytes blocks)
+uint64_t owner_loads(uint64_t role, struct bytes blocks)
 {
-    return owner_adds(legbaro_load, blocks);
+    return owner_adds(legbaro_load, role, blocks);
 }
 
 /* Room for a mark of the file; none in version 1. */
@@ -188,13 +189,13 @@ static struct bytes room_for_mark(void)
     return room(in_card(LEGBARO_CARD_VERSION, 1) == LEGBARO_WITHOUT_MARKS ? 0 : 1);
 }
 
-uint64_t owner_updates(uint64_t number, struct bytes block)
+uint64_t owner_updates(uint64_t role, uint64_t number, struct bytes block)
 {
     struct hand hand = owner_takes();
     struct bytes old = room(block.length), mark = room_for_mark();
     host_sends(number, old, mark);
-    uint64_t result = legbaro_update(LENT(hand.master), LENT(hand.card), LENT(hand.table), number, LENT(old), LENT(mark), LENT(block),
-                                     LENT(hand.totals));
+    uint64_t result = legbaro_update(role, LENT(hand.master), LENT(hand.card), LENT(hand.table), number, LENT(old), LENT(mark),
+                                     LENT(block), LENT(hand.totals));
     if (result == LEGBARO_OK)
         host_replaces(number, block, LEGBARO_LIVE);
     owner_puts_back(&hand, result);
@@ -203,14 +204,14 @@ uint64_t owner_updates(uint64_t number, struct bytes block)
     return result;
 }
 
-uint64_t owner_deletes(uint64_t number)
+uint64_t owner_deletes(uint64_t role, uint64_t number)
 {
     struct hand hand = owner_takes();
     size_t block_bytes = in_card(LEGBARO_CARD_BLOCK_BYTES, 2);
     struct bytes old = room(block_bytes), zeros = room(block_bytes), mark = room_for_mark();
     host_sends(number, old, mark);
-    uint64_t result =
-        legbaro_delete(LENT(hand.master), LENT(hand.card), LENT(hand.table), number, LENT(old), LENT(mark), LENT(hand.totals));
+    uint64_t result = legbaro_delete(role, LENT(hand.master), LENT(hand.card), LENT(hand.table), number, LENT(old), LENT(mark),
+                                     LENT(hand.totals));
     if (result == LEGBARO_OK)
         host_replaces(number, zeros, LEGBARO_DELETED);
     owner_puts_back(&hand, result);
@@ -245,7 +246,7 @@ static void host_corrects(const struct correction *corrections, size_t count, si
     free(zeros.at);
 }
 
-uint64_t owner_corrects(const struct correction *corrections, size_t count)
+uint64_t owner_corrects(uint64_t role, const struct correction *corrections, size_t count)
 {
     struct hand hand = owner_takes();
     uint64_t version = in_card(LEGBARO_CARD_VERSION, 1);
@@ -253,7 +254,7 @@ uint64_t owner_corrects(const struct correction *corrections, size_t count)
     struct bytes items = room(count * item_bytes);
     for (size_t i = 0; i < count; i++)
         write_item(items.at + i * item_bytes, &corrections[i], version, block_bytes);
-    uint64_t result = legbaro_batch(LENT(hand.master), LENT(hand.card), LENT(hand.table), LENT(items), LENT(hand.totals));
+    uint64_t result = legbaro_batch(role, LENT(hand.master), LENT(hand.card), LENT(hand.table), LENT(items), LENT(hand.totals));
     if (result == LEGBARO_OK)
         host_corrects(corrections, count, block_bytes);
     owner_puts_back(&hand, result);
@@ -264,12 +265,12 @@ uint64_t owner_corrects(const struct correction *corrections, size_t count)
 /* ---- The owner: changes in two steps ---- */
 
 /* The card is stored first. The standing table has served, and what was asked is kept until it is committed or dropped. */
-uint64_t owner_asks_append(struct bytes block)
+uint64_t owner_asks_append(uint64_t role, struct bytes block)
 {
     struct hand hand = owner_takes();
     struct bytes second = room(hand.table.length);
     uint64_t result =
-        legbaro_ask_append(LENT(hand.master), LENT(hand.card), LENT(hand.table), LENT(second), LENT(block), LENT(hand.totals));
+        legbaro_ask_append(role, LENT(hand.master), LENT(hand.card), LENT(hand.table), LENT(second), LENT(block), LENT(hand.totals));
     if (result == LEGBARO_OK) {
         owner_keeps(&hand);
         write_file("owner/asked-table", LENT(second));
@@ -305,10 +306,10 @@ static void host_takes_asked(void)
     free(block.at);
 }
 
-uint64_t owner_commits(void)
+uint64_t owner_commits(uint64_t role)
 {
     struct bytes card = read_file("owner/card");
-    uint64_t result = legbaro_commit(LENT(card));
+    uint64_t result = legbaro_commit(role, LENT(card));
     if (result == LEGBARO_OK) {
         store_card(card);
         host_takes_asked();
@@ -318,10 +319,10 @@ uint64_t owner_commits(void)
     return result;
 }
 
-uint64_t owner_drops(void)
+uint64_t owner_drops(uint64_t role)
 {
     struct bytes card = read_file("owner/card");
-    uint64_t result = legbaro_drop(LENT(card));
+    uint64_t result = legbaro_drop(role, LENT(card));
     if (result == LEGBARO_OK) {
         store_card(card);
         forget_asked();

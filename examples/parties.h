@@ -1,6 +1,7 @@
 /*
  * Owner and host of one file, as two folders of real files. Functions named owner_ read the owner's files, and fetch from the host what an
- * owner would fetch. Functions named host_ read the host's files alone. Each answers the number of the library's call that it makes.
+ * owner would fetch; where a role is named first, it is that of who works the owner's screen. Functions named host_ read the host's files
+ * alone. Each answers the number of the library's call that it makes.
  */
 #ifndef PARTIES_H
 #define PARTIES_H
@@ -34,12 +35,12 @@ void store_card(struct bytes card);
 void owner_fetches(uint64_t token);
 
 /* Appends a block; loads one or more blocks, end to end. They go to the host where the call was accepted. */
-uint64_t owner_appends(struct bytes block);
-uint64_t owner_loads(struct bytes blocks);
+uint64_t owner_appends(uint64_t role, struct bytes block);
+uint64_t owner_loads(uint64_t role, struct bytes blocks);
 
 /* Fetches a block and its mark, and puts another or zero bytes in its place; the host does the same, and keeps the mark. */
-uint64_t owner_updates(uint64_t number, struct bytes block);
-uint64_t owner_deletes(uint64_t number);
+uint64_t owner_updates(uint64_t role, uint64_t number, struct bytes block);
+uint64_t owner_deletes(uint64_t role, uint64_t number);
 
 /* A block and what takes its place; zero bytes do where no block is named. */
 struct correction {
@@ -48,23 +49,23 @@ struct correction {
 };
 
 /* Corrects blocks together, in one batch: fetches them, and puts the others in their places; the host does the same. */
-uint64_t owner_corrects(const struct correction *corrections, size_t count);
+uint64_t owner_corrects(uint64_t role, const struct correction *corrections, size_t count);
 
 /* Changes in two steps, of a file of version 3. Asks for an append: the card is stored, and the second table is kept with the block and
  * goes nowhere yet. Sends both to the host, which keeps them beside what stands. Then commits, and the host is told that they stand; or
  * drops, and both throw them away. */
-uint64_t owner_asks_append(struct bytes block);
+uint64_t owner_asks_append(uint64_t role, struct bytes block);
 void owner_sends_asked(void);
-uint64_t owner_commits(void);
-uint64_t owner_drops(void);
+uint64_t owner_commits(uint64_t role);
+uint64_t owner_drops(uint64_t role);
 
 /* Draws a message and sends it to the host, where the plan allows a draw now; how long to wait for that. */
-uint64_t owner_draws(const struct moment *now);
+uint64_t owner_draws(uint64_t role, const struct moment *now);
 uint64_t owner_waits(const struct moment *now);
 
 /* Asks why the reply that the host sent would be rejected; judges it. */
-uint64_t owner_asks_cause(void);
-uint64_t owner_judges(void);
+uint64_t owner_asks_cause(uint64_t role);
+uint64_t owner_judges(uint64_t role);
 
 /* Answers the message. The host has nothing but the message, its blocks, their marks and its table. */
 uint64_t host_proves(void);

@@ -37,6 +37,7 @@ void tell(const char *step, uint64_t result, uint64_t expected)
         [LEGBARO_OUTSIDE_WINDOWS] = "turned away: the plan allows no draw now",
         [LEGBARO_CHANGE_PENDING] = "turned away: a change is pending",
         [LEGBARO_NONE_PENDING] = "turned away: no change is pending",
+        [LEGBARO_NO_RIGHT] = "turned away: this role may not",
         [LEGBARO_BAD_BATCH] = "turned away: these items are no batch",
     };
     printf("  %-56s %s\n", step, results[LEGBARO_CODE(result)]);
@@ -80,7 +81,7 @@ void tell_work(const char *party)
 
 void draw_at(struct moment now, uint64_t code)
 {
-    tell("the owner draws a token and sends the message:", owner_draws(&now), code);
+    tell("the manager draws a token and sends the message:", owner_draws(LEGBARO_MANAGER, &now), code);
 }
 
 /* A Monday at 22:15. */
@@ -101,8 +102,8 @@ void tell_cause(uint64_t expected)
         [LEGBARO_CAUSE_TAG] = "bad tag: the table is damaged, use a copy",
         [LEGBARO_CAUSE_DIGEST] = "other digest: a block or a mark is not the file's",
     };
-    uint64_t result = owner_asks_cause(), cause = LEGBARO_NUMBER(result);
-    printf("  %-56s %s\n", "the owner asks for the cause, and tells the host:", causes[cause]);
+    uint64_t result = owner_asks_cause(LEGBARO_MANAGER), cause = LEGBARO_NUMBER(result);
+    printf("  %-56s %s\n", "the manager asks for the cause, and tells the host:", causes[cause]);
     if (result != LEGBARO_OK + 256 * expected) {
         printf("    expected: %s\n", causes[expected]);
         others++;
@@ -116,7 +117,7 @@ void prove(void)
 
 void judge(uint64_t verdict)
 {
-    tell("the owner judges the reply:", owner_judges(), verdict);
+    tell("the manager judges the reply:", owner_judges(LEGBARO_MANAGER), verdict);
 }
 
 void prove_and_judge(uint64_t verdict)

@@ -21,6 +21,9 @@ void closed_days(void);
 /* A fourth car park, whose line drops in the middle of a change: steps.c. */
 void dropped_line(void);
 
+/* A fifth car park, where surveyor, planner and manager try what is not theirs: roles.c. */
+void who_may(void);
+
 /* The samples of so many hours, end to end, counted from a car park's first: which of its bays are taken, a byte for each. */
 struct bytes samples(unsigned bays, unsigned first_hour, unsigned hours);
 
@@ -36,7 +39,7 @@ void tell_card(void);
 void tell_work(const char *party);
 
 /* The first step of an audit, in closing hours or at a time with the code that is expected; and the other two with the verdict that is
- * expected, together or each alone, or for a reply that is rejected with its cause. */
+ * expected, together or each alone, or for a reply that is rejected with its cause. The manager draws and judges. */
 void draw(void);
 void draw_at(struct moment now, uint64_t code);
 void prove(void);

@@ -32,7 +32,7 @@ static void tell_steps(void)
 
 static void ask(struct bytes sample)
 {
-    tell("the owner asks for an append, and stores its card:", owner_asks_append(sample), LEGBARO_OK);
+    tell("the surveyor asks for an append, the card is stored:", owner_asks_append(LEGBARO_SURVEYOR, sample), LEGBARO_OK);
     tell_steps();
 }
 
@@ -52,7 +52,7 @@ static void dropped(struct bytes sample)
     ask(sample);
     line_drops();
     puts("  The owner gives this ask up. The host throws away what it got, and the table that stood stands.");
-    tell("the owner drops what is pending:", owner_drops(), LEGBARO_OK);
+    tell("the planner drops what is pending:", owner_drops(LEGBARO_PLANNER), LEGBARO_OK);
     tell_steps();
     draw();
     prove_and_judge(LEGBARO_OK);
@@ -68,7 +68,7 @@ static void committed(struct bytes sample)
     owner_sends_asked();
     puts("  This time all arrives, and the host says so.");
     tell_files("host");
-    tell("the owner commits:", owner_commits(), LEGBARO_OK);
+    tell("the planner commits:", owner_commits(LEGBARO_PLANNER), LEGBARO_OK);
     tell_steps();
     tell_files("host");
     draw();

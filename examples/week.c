@@ -1,6 +1,7 @@
 /*
  * One file's week: a car park's occupancy samples go to a storage host, one block a tick, a morning's corrections go there together, and
- * the host is audited. Then a new centre, which sends a month together, one with closed days, and one that changes its file in two steps.
+ * the host is audited. Then a new centre, which sends a month together, one with closed days, one that changes its file in two steps, and
+ * one where not everybody may do everything.
  *
  * Owner and host are two folders of real files in a temporary folder: parties.h. The program ends with status 0 where every step came out
  * as a planner expects it.
@@ -28,6 +29,7 @@ static void set_up(void)
     printf("  Last week's %d samples are the first blocks, one for each of %d rows.\n", ROWS, ROWS);
     puts("  The file is of version 2: each block has a mark beside it, which says whether the block is live or deleted.");
     printf("  %d tokens are made, each over all rows, and sealed in a table: enough for %d audits.\n", TOKENS, TOKENS);
+    puts("  Three people work the owner's screen: a surveyor sends samples, a manager audits the host, a planner may do everything.");
     tell_files("owner");
     tell("the owner sets up the file, and sends all to the host:", owner_sets_up(&plan), LEGBARO_OK);
     wipe("owner/blocks");
@@ -44,7 +46,7 @@ static void day(const char *name, unsigned number)
     for (unsigned tick = 0; tick < TICKS_A_DAY && result == LEGBARO_OK; tick++) {
         struct bytes block = samples(BAYS, ROWS + number * TICKS_A_DAY + tick, 1);
         copy_file("host/table", "host/table-before");
-        result = owner_appends(block);
+        result = owner_appends(LEGBARO_SURVEYOR, block);
         free(block.at);
     }
     snprintf(step, sizeof step, "%s, %d samples appended:", name, TICKS_A_DAY);
@@ -61,11 +63,11 @@ static void changes(void)
     day("Tuesday", 1);
     day("Wednesday", 2);
     printf("  A detector was stuck: the owner fetches block %d from the host and corrects it.\n", STUCK);
-    tell("update:", owner_updates(STUCK, corrected), LEGBARO_OK);
+    tell("update:", owner_updates(LEGBARO_PLANNER, STUCK, corrected), LEGBARO_OK);
     free(corrected.at);
     day("Thursday", 3);
     printf("  Block %d may no longer be kept: zero bytes take its place, and its mark says so.\n", EXPIRED);
-    tell("deletion:", owner_deletes(EXPIRED), LEGBARO_OK);
+    tell("deletion:", owner_deletes(LEGBARO_PLANNER, EXPIRED), LEGBARO_OK);
     day("Friday", 4);
     day("Saturday", 5);
     day("Sunday", 6);
@@ -119,11 +121,11 @@ static void bad_record(void)
            STUCK, DROPPED_IN);
     owner_fetches(1);
     line_drops_in(DROPPED_IN);
-    uint64_t result = owner_updates(STUCK, corrected);
+    uint64_t result = owner_updates(LEGBARO_PLANNER, STUCK, corrected);
     tell("update:", result, LEGBARO_BAD_RECORD);
     if (LEGBARO_CODE(result) == LEGBARO_BAD_RECORD)
         fetch_from(LEGBARO_TOKEN(result));
-    tell("update:", owner_updates(STUCK, corrected), LEGBARO_OK);
+    tell("update:", owner_updates(LEGBARO_PLANNER, STUCK, corrected), LEGBARO_OK);
     free(corrected.at);
     tell_card();
 }
@@ -178,6 +180,7 @@ int main(void)
     new_centre();
     closed_days();
     dropped_line();
+    who_may();
     if (chdir("/") != 0 || rmdir(folder) != 0)
         stop("remove", folder);
     printf("\n%s\n", surprises() ? "Some steps did not come out as expected." : "Every step came out as expected.");

@@ -66,6 +66,19 @@
  * The totals of a change tell how many unused tokens cover its blocks, which no host may learn before these are drawn. The owner keeps
  * them, and those of set-up, and sends none of them. A proof's are the host's own.
  *
+ * ROLES. Surveyors, planners and centre managers work at one screen. Every call that is lent a card is told the role of who makes it, as
+ * its first argument; set-up, and calls that are lent no card, take none. Who may do what:
+ *
+ *                                             surveyor   planner   manager
+ *   append, load; the same asked              yes        yes       no
+ *   update, delete, batch; the same asked     no         yes       no
+ *   commit, drop                              no         yes       no
+ *   draw, judge, cause                        no         yes       yes
+ *
+ * A role that may not, and a number that is no role, is turned away with LEGBARO_NO_RIGHT ahead of every check. That answer depends on role
+ * and call alone, and tells nothing of the other arguments. A permitted call answers and writes the same whichever role makes it. The
+ * library takes the role as it is told: who is at the screen, and in which role, is the caller's to know.
+ *
  * RESULT. Every call returns code + 256 * number. The code is 0 for an accepted call. The number is 0 but in two cases: with
  * LEGBARO_BAD_RECORD it is a token, and from legbaro_positions, legbaro_wait and legbaro_cause, with code 0, it is what was asked for.
  * A call that is turned away (any code but 0 and LEGBARO_REJECTED) leaves every buffer as it was. The codes of each call stand
@@ -98,6 +111,11 @@
 #define LEGBARO_TWO_STEPS 3 /* with marks too */
 #define LEGBARO_LIVE 0
 #define LEGBARO_DELETED 1
+
+/* Roles of who makes a call. */
+#define LEGBARO_SURVEYOR 1
+#define LEGBARO_PLANNER 2
+#define LEGBARO_MANAGER 3
 
 /* Sizes in bytes. A table has LEGBARO_RECORD_BYTES for each token. */
 #define LEGBARO_MASTER_BYTES 32
@@ -146,6 +164,7 @@
 #define LEGBARO_CHANGE_PENDING 18     /* change, ask or draw while a change is pending */
 #define LEGBARO_NONE_PENDING 19       /* commit or drop while none is */
 #define LEGBARO_TOO_MANY_DAMAGED 21   /* a sheet for more damaged rows than there are rows */
+#define LEGBARO_NO_RIGHT 22           /* there is no such role, or it may not make this call */
 
 /* The two parts of a result: the code, and the number, which is a token with LEGBARO_BAD_RECORD. */
 #define LEGBARO_CODE(result) ((result) % 256)

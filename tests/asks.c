@@ -25,7 +25,7 @@ static void audit(struct file *file)
 /* A commit or a drop on a card, expected to be accepted. */
 static struct call settled(enum kind kind, const struct buffer *card)
 {
-    struct call call = {.kind = kind};
+    struct call call = {.kind = kind, .role = any_permitted(kind)};
     call.lent[CARD] = buffer_copy(card);
     call_expect(&call, LEGBARO_OK, "accepted");
     return call;

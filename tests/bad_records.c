@@ -87,7 +87,7 @@ static void fetch_again(struct buffer *table, const struct buffer *sound, uint64
 static void expect_mended(const struct call *call, const struct call *sound, const struct buffer *lent, uint64_t next)
 {
     size_t spent = (next - 1) * LEGBARO_RECORD_BYTES;
-    enum role written = is_ask(call->kind) ? SECOND : TABLE;
+    enum argument written = is_ask(call->kind) ? SECOND : TABLE;
     expect(buffer_same(&call->lent[CARD], &sound->lent[CARD]), "the card of the change on the sound table");
     expect(memcmp(call->lent[written].bytes + spent, sound->lent[written].bytes + spent, lent->length - spent) == 0,
            "the unused records of the change on the sound table");

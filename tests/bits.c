@@ -9,10 +9,10 @@
 enum { B = 28, D = 5, R = 5, T = 3, BITS = 7 };
 
 /* A call of a kind on the file with one bit of a buffer flipped. Answers its number. */
-static uint64_t with_bit(const struct file *file, enum kind kind, enum role role, size_t bit)
+static uint64_t with_bit(const struct file *file, enum kind kind, enum argument argument, size_t bit)
 {
     struct call call = file_call(file, kind);
-    buffer_flip(&call.lent[role], bit);
+    buffer_flip(&call.lent[argument], bit);
     uint64_t number = call_compare(&call);
     call_free(&call);
     return number;

@@ -124,18 +124,19 @@ static uint64_t turned_away(const struct book *book, const struct call *call)
     book_card(book, card);
     switch (call->kind) {
     case DRAW:
-        return second_draw_fault(master_length, card, size, call->lent[MESSAGE].length, call->lent[PLAN].bytes,
+        return second_draw_fault(call->role, master_length, card, size, call->lent[MESSAGE].length, call->lent[PLAN].bytes,
                                  call->lent[PLAN].length, &when);
     case JUDGE:
-        return second_judge_fault(master_length, card, size);
+        return second_judge_fault(call->role, master_length, card, size);
     case COMMIT:
     case DROP:
-        return second_settle_fault(card, size);
+        return second_settle_fault(call->role, card, size);
     default:
         edit = edit_of(call);
         if (is_ask(call->kind))
-            return second_ask_fault(&edit, master_length, card, size, table_bytes(book), call->lent[SECOND].length, totals_length);
-        return second_change_fault(&edit, master_length, card, size, table_bytes(book), totals_length);
+            return second_ask_fault(call->role, &edit, master_length, card, size, table_bytes(book), call->lent[SECOND].length,
+                                    totals_length);
+        return second_change_fault(call->role, &edit, master_length, card, size, table_bytes(book), totals_length);
     }
 }
 

@@ -4,41 +4,44 @@
 #include "groups.h"
 #include "run.h"
 
-/* The buffers of each kind of call, a bit for each role, and those among them that it writes. */
-#define BIT(role) (1u << (role))
+/* The buffers that each kind of call is lent, a bit for each, those among them that it writes, and the roles that may make it. */
+#define BIT(argument) (1u << (argument))
 #define CHANGE (BIT(MASTER) | BIT(CARD) | BIT(TABLE) | BIT(TOTALS))
 #define ASK (CHANGE | BIT(SECOND))
 #define CHANGED (BIT(CARD) | BIT(TABLE) | BIT(TOTALS))
 #define ASKED (BIT(CARD) | BIT(SECOND) | BIT(TOTALS))
+#define PLANNER BIT(LEGBARO_PLANNER)
+#define SURVEYOR_TOO (PLANNER | BIT(LEGBARO_SURVEYOR))
+#define MANAGER_TOO (PLANNER | BIT(LEGBARO_MANAGER))
 
 static const struct {
     const char *name;
-    unsigned takes, writes;
+    unsigned takes, writes, roles;
 } kinds[KINDS] = {
-    [SET_UP] = {"set-up", CHANGE | BIT(ID) | BIT(BLOCKS), CHANGED},
-    [UPDATE] = {"update", CHANGE | BIT(OLD) | BIT(MARKS) | BIT(NEW), CHANGED},
-    [DELETE] = {"delete", CHANGE | BIT(OLD) | BIT(MARKS), CHANGED},
-    [APPEND] = {"append", CHANGE | BIT(NEW), CHANGED},
-    [LOAD] = {"load", CHANGE | BIT(BLOCKS), CHANGED},
-    [BATCH] = {"batch", CHANGE | BIT(ITEMS), CHANGED},
-    [ASK_UPDATE] = {"ask update", ASK | BIT(OLD) | BIT(MARKS) | BIT(NEW), ASKED},
-    [ASK_DELETE] = {"ask delete", ASK | BIT(OLD) | BIT(MARKS), ASKED},
-    [ASK_APPEND] = {"ask append", ASK | BIT(NEW), ASKED},
-    [ASK_LOAD] = {"ask load", ASK | BIT(BLOCKS), ASKED},
-    [ASK_BATCH] = {"ask batch", ASK | BIT(ITEMS), ASKED},
-    [COMMIT] = {"commit", BIT(CARD), BIT(CARD)},
-    [DROP] = {"drop", BIT(CARD), BIT(CARD)},
-    [DRAW] = {"draw", BIT(MASTER) | BIT(CARD) | BIT(MESSAGE) | BIT(PLAN), BIT(CARD) | BIT(MESSAGE)},
-    [JUDGE] = {"judge", BIT(MASTER) | BIT(CARD) | BIT(REPLY), BIT(CARD)},
-    [CAUSE] = {"cause", BIT(MASTER) | BIT(CARD) | BIT(REPLY), 0},
-    [PROVE] = {"prove", BIT(MESSAGE) | BIT(BLOCKS) | BIT(MARKS) | BIT(TABLE) | BIT(REPLY) | BIT(TOTALS), BIT(REPLY) | BIT(TOTALS)},
-    [POSITIONS] = {"positions", 0, 0},
-    [WAIT] = {"wait", BIT(PLAN), 0},
-    [SHEET] = {"sheet", BIT(OUT), BIT(OUT)},
+    [SET_UP] = {"set-up", CHANGE | BIT(ID) | BIT(BLOCKS), CHANGED, 0},
+    [UPDATE] = {"update", CHANGE | BIT(OLD) | BIT(MARKS) | BIT(NEW), CHANGED, PLANNER},
+    [DELETE] = {"delete", CHANGE | BIT(OLD) | BIT(MARKS), CHANGED, PLANNER},
+    [APPEND] = {"append", CHANGE | BIT(NEW), CHANGED, SURVEYOR_TOO},
+    [LOAD] = {"load", CHANGE | BIT(BLOCKS), CHANGED, SURVEYOR_TOO},
+    [BATCH] = {"batch", CHANGE | BIT(ITEMS), CHANGED, PLANNER},
+    [ASK_UPDATE] = {"ask update", ASK | BIT(OLD) | BIT(MARKS) | BIT(NEW), ASKED, PLANNER},
+    [ASK_DELETE] = {"ask delete", ASK | BIT(OLD) | BIT(MARKS), ASKED, PLANNER},
+    [ASK_APPEND] = {"ask append", ASK | BIT(NEW), ASKED, SURVEYOR_TOO},
+    [ASK_LOAD] = {"ask load", ASK | BIT(BLOCKS), ASKED, SURVEYOR_TOO},
+    [ASK_BATCH] = {"ask batch", ASK | BIT(ITEMS), ASKED, PLANNER},
+    [COMMIT] = {"commit", BIT(CARD), BIT(CARD), PLANNER},
+    [DROP] = {"drop", BIT(CARD), BIT(CARD), PLANNER},
+    [DRAW] = {"draw", BIT(MASTER) | BIT(CARD) | BIT(MESSAGE) | BIT(PLAN), BIT(CARD) | BIT(MESSAGE), MANAGER_TOO},
+    [JUDGE] = {"judge", BIT(MASTER) | BIT(CARD) | BIT(REPLY), BIT(CARD), MANAGER_TOO},
+    [CAUSE] = {"cause", BIT(MASTER) | BIT(CARD) | BIT(REPLY), 0, MANAGER_TOO},
+    [PROVE] = {"prove", BIT(MESSAGE) | BIT(BLOCKS) | BIT(MARKS) | BIT(TABLE) | BIT(REPLY) | BIT(TOTALS), BIT(REPLY) | BIT(TOTALS), 0},
+    [POSITIONS] = {"positions", 0, 0, 0},
+    [WAIT] = {"wait", BIT(PLAN), 0, 0},
+    [SHEET] = {"sheet", BIT(OUT), BIT(OUT), 0},
 };
 
-static const char *const roles[ROLES] = {"master", "id",        "blocks", "card",    "table", "second table", "old block",
-                                         "marks",  "new block", "items",  "message", "plan",  "reply",        "totals", "sheet"};
+static const char *const arguments[ARGUMENTS] = {"master", "id",        "blocks", "card",    "table", "second table", "old block",
+                                                 "marks",  "new block", "items",  "message", "plan",  "reply",        "totals", "sheet"};
 
 static unsigned long counts[KINDS][LAST_CODE + 1];
 
@@ -47,9 +50,14 @@ const char *call_name(enum kind kind)
     return kinds[kind].name;
 }
 
-int call_takes(enum kind kind, enum role role)
+int call_takes(enum kind kind, enum argument argument)
 {
-    return (kinds[kind].takes & BIT(role)) != 0;
+    return (kinds[kind].takes & BIT(argument)) != 0;
+}
+
+int call_permits(enum kind kind, uint64_t role)
+{
+    return role <= LEGBARO_MANAGER && (kinds[kind].roles & BIT(role)) != 0;
 }
 
 int is_change(enum kind kind)
@@ -82,8 +90,8 @@ struct call call_sheet(uint64_t B, uint64_t d, uint64_t r, uint64_t t, uint64_t 
 struct call call_copy(const struct call *call)
 {
     struct call other = *call;
-    for (int role = 0; role < ROLES; role++)
-        other.lent[role] = buffer_copy(&call->lent[role]);
+    for (int argument = 0; argument < ARGUMENTS; argument++)
+        other.lent[argument] = buffer_copy(&call->lent[argument]);
     return other;
 }
 
@@ -97,8 +105,8 @@ struct call call_asked(const struct call *change)
 
 void call_free(struct call *call)
 {
-    for (int role = 0; role < ROLES; role++)
-        buffer_free(&call->lent[role]);
+    for (int argument = 0; argument < ARGUMENTS; argument++)
+        buffer_free(&call->lent[argument]);
 }
 
 uint64_t call_library(struct call *call)
@@ -112,12 +120,12 @@ uint64_t call_second(struct call *call)
 }
 
 /* What is expected of one buffer after a call: `ours` after the library, `theirs` after the second implementation, `before`. */
-static void compare_buffer(enum kind kind, enum role role, int written, const struct buffer *ours, const struct buffer *theirs,
+static void compare_buffer(enum kind kind, enum argument argument, int written, const struct buffer *ours, const struct buffer *theirs,
                            const struct buffer *before)
 {
-    expect(buffer_same(ours, theirs), "%s: the second implementation's %s", kinds[kind].name, roles[role]);
-    expect(written || buffer_same(ours, before), "%s: the %s as it was", kinds[kind].name, roles[role]);
-    expect(buffer_guarded(ours), "%s: nothing written around the %s", kinds[kind].name, roles[role]);
+    expect(buffer_same(ours, theirs), "%s: the second implementation's %s", kinds[kind].name, arguments[argument]);
+    expect(written || buffer_same(ours, before), "%s: the %s as it was", kinds[kind].name, arguments[argument]);
+    expect(buffer_guarded(ours), "%s: nothing written around the %s", kinds[kind].name, arguments[argument]);
 }
 
 uint64_t call_compare_by(uint64_t (*run)(struct call *), struct call *call)
@@ -130,10 +138,10 @@ uint64_t call_compare_by(uint64_t (*run)(struct call *), struct call *call)
         counts[call->kind][LEGBARO_CODE(number)]++;
     expect(number == expected, "%s: number %llu, not %llu", kinds[call->kind].name, (unsigned long long)expected,
            (unsigned long long)number);
-    for (int role = 0; role < ROLES; role++)
-        if (call_takes(call->kind, role)) {
-            int written = !refused && (kinds[call->kind].writes & BIT(role));
-            compare_buffer(call->kind, role, written, &call->lent[role], &other.lent[role], &before.lent[role]);
+    for (int argument = 0; argument < ARGUMENTS; argument++)
+        if (call_takes(call->kind, argument)) {
+            int written = !refused && (kinds[call->kind].writes & BIT(argument));
+            compare_buffer(call->kind, argument, written, &call->lent[argument], &other.lent[argument], &before.lent[argument]);
         }
     call_free(&before);
     call_free(&other);

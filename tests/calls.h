@@ -32,23 +32,28 @@ enum kind {
 };
 
 /* The highest code of any call. */
-enum { LAST_CODE = LEGBARO_TOO_MANY_DAMAGED };
+enum { LAST_CODE = LEGBARO_NO_RIGHT };
 
-enum role { MASTER, ID, BLOCKS, CARD, TABLE, SECOND, OLD, MARKS, NEW, ITEMS, MESSAGE, PLAN, REPLY, TOTALS, OUT, ROLES };
+/* The buffers that calls are lent. */
+enum argument { MASTER, ID, BLOCKS, CARD, TABLE, SECOND, OLD, MARKS, NEW, ITEMS, MESSAGE, PLAN, REPLY, TOTALS, OUT, ARGUMENTS };
 
 struct call {
     enum kind kind;
+    uint64_t role;                     /* of who makes a call that is lent a card, set-up apart */
     uint64_t version, B, d, r, t, n;   /* of a set-up and of a sheet; positions takes r, d and n */
     uint64_t m;                        /* the block number of an update or a deletion, asked too; the damaged rows of a sheet */
     uint64_t year, month, day, minute; /* of a draw and of a wait */
-    struct buffer lent[ROLES];
+    struct buffer lent[ARGUMENTS];
 };
 
 /* The call's name, for what is printed. */
 const char *call_name(enum kind kind);
 
 /* Whether calls of a kind are lent a buffer. */
-int call_takes(enum kind kind, enum role role);
+int call_takes(enum kind kind, enum argument argument);
+
+/* Whether a role may make calls of a kind; no role may where they are told none. */
+int call_permits(enum kind kind, uint64_t role);
 
 /* Whether a kind is a change in one step, or an ask; a change asked, and the change that is asked. Kinds of other calls stay. */
 int is_change(enum kind kind);

@@ -54,7 +54,7 @@ static struct file drawn(uint64_t version)
 /* The cause of a reply, which is compared; and judge accepts exactly where there is none. */
 static uint64_t cause_of(const struct file *file, const struct buffer *reply)
 {
-    struct call cause = {.kind = CAUSE};
+    struct call cause = {.kind = CAUSE, .role = any_permitted(CAUSE)};
     cause.lent[MASTER] = buffer_copy(&file->master);
     cause.lent[CARD] = buffer_copy(&file->card);
     cause.lent[REPLY] = buffer_copy(reply);
@@ -142,10 +142,10 @@ static void every_set(const struct file *file)
 /* ---- What hosts do ---- */
 
 /* The host's proof from the message drawn last, with one byte of a buffer altered. */
-static struct buffer proved_with(const struct file *file, enum role role, size_t at)
+static struct buffer proved_with(const struct file *file, enum argument argument, size_t at)
 {
     struct call proof = file_call(file, PROVE);
-    proof.lent[role].bytes[at] ^= 1;
+    proof.lent[argument].bytes[at] ^= 1;
     call_expect(&proof, LEGBARO_OK, "accepted");
     struct buffer reply = buffer_copy(&proof.lent[REPLY]);
     call_free(&proof);

@@ -1,10 +1,10 @@
 /* See fault_list.h. */
 #include "fault_list.h"
 
-/* What a fault alters: the length of a buffer, which is named by its role, a number, a field of card, message or items, what is pending, a
- * mark, or record 2. */
+/* What a fault alters: the length of a buffer, which is named as the argument is, a number, a field of card, message or items, what is
+ * pending, a mark, or record 2. */
 enum target {
-    NUMBER_VERSION = ROLES,
+    NUMBER_VERSION = ARGUMENTS,
     NUMBER_B,
     NUMBER_D,
     NUMBER_R,
@@ -15,6 +15,7 @@ enum target {
     NUMBER_MONTH,
     NUMBER_DAY,
     NUMBER_MINUTE,
+    NUMBER_ROLE,
     CARD_LENGTH,
     CARD_VERSION,
     CARD_B,
@@ -49,11 +50,11 @@ enum target {
     TARGETS
 };
 
-#define LENGTH_OF(role) ((enum target)(role))
+#define LENGTH_OF(argument) ((enum target)(argument))
 
 /* Where a field is; of items, which are three, in which of them. */
 static const struct {
-    enum role role;
+    enum argument argument;
     size_t item, at;
     unsigned width;
 } fields[TARGETS] = {
@@ -114,11 +115,17 @@ static const struct {
 enum { NOTHING, LAST_ISSUED, COUNTER_ALONE, BLOCKS_ALONE, BELOW_LAST, ABOVE_LAST, FEWER_BLOCKS, TOO_MANY_BLOCKS };
 enum { NO_BYTES, ONE_LESS, ONE_MORE, ONE_ITEM_TOO_MANY, OTHER_CARD };
 
-#define TOO_SHORT(kinds, place, role) {kinds, place, LENGTH_OF(role), NO_BYTES}, {kinds, place, LENGTH_OF(role), ONE_LESS}
-#define WRONG_LENGTH(kinds, place, role) TOO_SHORT(kinds, place, role), {kinds, place, LENGTH_OF(role), ONE_MORE}
+#define TOO_SHORT(kinds, place, argument) {kinds, place, LENGTH_OF(argument), NO_BYTES}, {kinds, place, LENGTH_OF(argument), ONE_LESS}
+#define WRONG_LENGTH(kinds, place, argument) TOO_SHORT(kinds, place, argument), {kinds, place, LENGTH_OF(argument), ONE_MORE}
 
 /* `next` stands before `open`, what is pending behind other fields of the card, and lengths are last. */
 const struct fault faults[] = {
+    {READ_CARD, RIGHT, NUMBER_ROLE, 0},
+    {READ_CARD, RIGHT, NUMBER_ROLE, LEGBARO_MANAGER + 1},
+    {READ_CARD, RIGHT, NUMBER_ROLE, (UINT64_C(1) << 32) + LEGBARO_PLANNER},
+    {READ_CARD, RIGHT, NUMBER_ROLE, UINT64_MAX},
+    {READ_CARD & ~(EITHER(APPEND) | EITHER(LOAD)), RIGHT, NUMBER_ROLE, LEGBARO_SURVEYOR},
+    {CHANGES | SETTLING, RIGHT, NUMBER_ROLE, LEGBARO_MANAGER},
     {IN(SET_UP), LIMITS, NUMBER_VERSION, 0},
     {IN(SET_UP), LIMITS, NUMBER_VERSION, LEGBARO_TWO_STEPS + 1},
     {IN(SET_UP), LIMITS, NUMBER_VERSION, 256 + LEGBARO_WITH_MARKS},
@@ -310,7 +317,7 @@ static void make_pending(struct buffer *card, uint64_t value)
 
 static void make_field_fault(struct call *call, const struct fault *fault, uint64_t version)
 {
-    struct buffer *b = &call->lent[fields[fault->target].role];
+    struct buffer *b = &call->lent[fields[fault->target].argument];
     uint64_t value = fault->value;
     if (fault->target == CARD_OPEN && value == BEFORE_NEXT)
         value = buffer_number(b, LEGBARO_CARD_NEXT, 4) - 1;
@@ -321,10 +328,10 @@ static void make_field_fault(struct call *call, const struct fault *fault, uint6
 void fault_make(struct call *call, const struct fault *fault, uint64_t version)
 {
     uint64_t *const numbers[] = {&call->version, &call->B,    &call->d,     &call->r,   &call->t,     &call->n,
-                                 &call->m,       &call->year, &call->month, &call->day, &call->minute};
-    if (fault->target < LENGTH_OF(ROLES))
+                                 &call->m,       &call->year, &call->month, &call->day, &call->minute, &call->role};
+    if (fault->target < LENGTH_OF(ARGUMENTS))
         make_length_fault(&call->lent[fault->target], fault->value, version);
-    else if (fault->target <= NUMBER_MINUTE)
+    else if (fault->target <= NUMBER_ROLE)
         *numbers[fault->target - NUMBER_VERSION] = fault->value;
     else if (fault->target == TAG_OF_RECORD_2)
         buffer_flip(&call->lent[TABLE], 8 * (2 * LEGBARO_RECORD_BYTES - 1));
@@ -337,6 +344,7 @@ void fault_make(struct call *call, const struct fault *fault, uint64_t version)
 uint64_t fault_number(enum place place, enum kind kind)
 {
     const uint64_t numbers[] = {
+        [RIGHT] = LEGBARO_NO_RIGHT,
         [TIME] = LEGBARO_BAD_TIME,
         [FIXED_SIZE] = LEGBARO_WRONG_LENGTH,
         [HEADER] = LEGBARO_WRONG_HEADER,

@@ -15,8 +15,10 @@ enum { FIRST_ITEM = 2, MIDDLE_ITEM = 4, LAST_ITEM = 6 };
 /* "Order: 1 for buffers of fixed size, 2, 3, 1 for sizes that follow from fields, then 8 or 9, 6, 4, 5, 10, 7", and the verdict or the
  * cause last; a load's 12 "just before 5"; the helper's 13 "after 3"; a batch's 14 "just before 4"; 15 "after the lengths that follow from
  * fields", "in a batch straight after 14"; of times "before everything else" 16, "and after 3 a draw outside every window (17)"; "straight
- * after 8" 18, and "then a commit or drop with nothing pending (19)"; of a sheet "after 3, m above d (21)". */
+ * after 8" 18, and "then a commit or drop with nothing pending (19)"; of a sheet "after 3, m above d (21)"; "ahead of every
+ * check" 22. */
 enum place {
+    RIGHT,
     TIME,
     FIXED_SIZE,
     HEADER,

@@ -23,6 +23,13 @@ uint64_t any_version(void)
     return FIRST_VERSION + chance_below(LAST_VERSION + 1 - FIRST_VERSION);
 }
 
+uint64_t any_permitted(enum kind kind)
+{
+    static const uint64_t roles[] = {LEGBARO_SURVEYOR, LEGBARO_PLANNER, LEGBARO_MANAGER};
+    uint64_t role = roles[chance_below(3)];
+    return call_permits(kind, role) ? role : LEGBARO_PLANNER;
+}
+
 struct call file_set_up_call(uint64_t version, uint64_t B, uint64_t d, uint64_t r, uint64_t t, uint64_t n)
 {
     struct call call = {.kind = SET_UP, .version = version, .B = B, .d = d, .r = r, .t = t, .n = n};
@@ -142,7 +149,7 @@ static void lend_hours(struct call *call)
 struct call file_call(const struct file *file, enum kind kind)
 {
     const struct card *numbers = &file->book.numbers;
-    struct call call = {.kind = kind, .m = 1 + chance_below(numbers->n)};
+    struct call call = {.kind = kind, .role = any_permitted(kind), .m = 1 + chance_below(numbers->n)};
     if (call_takes(kind, MASTER))
         call.lent[MASTER] = buffer_copy(&file->master);
     if (call_takes(kind, CARD))

@@ -73,11 +73,18 @@ static void disturb_hours(struct call *call)
     call_at(call, &when);
 }
 
+/* Any role, with a right or without, or a number that is none. */
+static uint64_t any_role(void)
+{
+    static const uint64_t roles[] = {0, LEGBARO_SURVEYOR, LEGBARO_PLANNER, LEGBARO_MANAGER, LEGBARO_MANAGER + 1, UINT64_MAX};
+    return chance_of(8) ? chance() : roles[chance_below(COUNT(roles))];
+}
+
 /* Something wrong in what a list may hold: anything lent but card and table, the master's bytes and a block's present bytes and mark. */
 static void disturb(const struct file *file, struct call *call)
 {
-    static const enum role lent[] = {MASTER, SECOND, OLD, MARKS, NEW, BLOCKS, ITEMS, MESSAGE, PLAN, REPLY, TOTALS};
-    enum role role = lent[chance_below(COUNT(lent))];
+    static const enum argument lent[] = {MASTER, SECOND, OLD, MARKS, NEW, BLOCKS, ITEMS, MESSAGE, PLAN, REPLY, TOTALS};
+    enum argument argument = lent[chance_below(COUNT(lent))];
     if (unasked(call->kind) == BATCH && chance_of(2))
         disturb_item(file, &call->lent[ITEMS]);
     else if (call->kind == DRAW && chance_of(2))
@@ -88,8 +95,8 @@ static void disturb(const struct file *file, struct call *call)
         call->m = no_such_block(file);
     else if (call->kind == JUDGE && chance_of(2))
         flip_any_bit(&call->lent[REPLY]);
-    else if (call_takes(call->kind, role))
-        wrong_length(&call->lent[role]);
+    else if (call_takes(call->kind, argument))
+        wrong_length(&call->lent[argument]);
 }
 
 /* Which call comes next, of a change whether or not it is asked: a drawn token is mostly judged, what is pending is mostly committed or
@@ -171,22 +178,27 @@ static void step(struct file *file, struct nonces *nonces)
     enum kind kind = call.kind;
     if (chance_of(4))
         disturb(file, &call);
+    if (chance_of(8))
+        call.role = any_role();
     if (file_run(file, &call) == LEGBARO_OK && (is_change(kind) || is_ask(kind)))
         seal_once(nonces, is_ask(kind) ? &file->asked : &file->table, &file->book.numbers);
 }
 
-/* A call beside the list, on copies: any kind, with some bytes or lengths of any buffer altered. The book knows nothing of it. */
+/* A call beside the list, on copies: any kind, with some bytes or lengths of any buffer altered, at times by any role. The book knows nothing
+ * of it. */
 static void aside(const struct file *file)
 {
     struct call call = file_call(file, (enum kind)(UPDATE + chance_below(PROVE + 1 - UPDATE)));
+    if (chance_of(8))
+        call.role = any_role();
     for (uint64_t faults = 1 + chance_below(2); faults; faults--) {
-        enum role role = (enum role)chance_below(ROLES);
-        if (!call_takes(call.kind, role))
+        enum argument argument = (enum argument)chance_below(ARGUMENTS);
+        if (!call_takes(call.kind, argument))
             continue;
         if (chance_of(3))
-            wrong_length(&call.lent[role]);
+            wrong_length(&call.lent[argument]);
         else
-            flip_any_bit(&call.lent[role]);
+            flip_any_bit(&call.lent[argument]);
     }
     call_compare(&call);
     call_free(&call);

@@ -66,6 +66,7 @@ int main(int count, char **words)
     test_asks();
     test_pending();
     test_totals();
+    test_roles();
     test_causes();
     test_plans();
     test_sheets();

@@ -36,9 +36,9 @@ static void lengths(uint64_t version)
     file_end(&proving);
 }
 
-static void with_mark(struct call call, enum role role, size_t at, uint64_t mark)
+static void with_mark(struct call call, enum argument argument, size_t at, uint64_t mark)
 {
-    call.lent[role].bytes[at] = (uint8_t)mark;
+    call.lent[argument].bytes[at] = (uint8_t)mark;
     call_finish(&call, mark <= LEGBARO_DELETED ? LEGBARO_OK : LEGBARO_BAD_MARK, "any mark");
 }
 

@@ -186,6 +186,20 @@ static void counter_at_most(const struct file *file)
     call_finish(&call, LEGBARO_COUNTER_AT_MOST, "ctr, or last issued, 4,294,967,295");
 }
 
+/* Code 22's small inputs: roles without the right, and a number that is no role. */
+static void without_right(const struct file *file)
+{
+    static const struct {
+        enum kind kind;
+        uint64_t role;
+    } calls[] = {{UPDATE, LEGBARO_MANAGER}, {DELETE, LEGBARO_SURVEYOR}, {COMMIT, LEGBARO_SURVEYOR}, {DRAW, LEGBARO_SURVEYOR}, {APPEND, 0}};
+    for (size_t i = 0; i < sizeof calls / sizeof *calls; i++) {
+        struct call call = file_call(file, calls[i].kind);
+        call.role = calls[i].role;
+        call_finish(&call, LEGBARO_NO_RIGHT, "a role without the right");
+    }
+}
+
 /* The small inputs on a new file. */
 static void small_calls(struct file *file)
 {
@@ -217,6 +231,7 @@ static void small_calls(struct file *file)
     buffer_flip(&call.lent[TABLE], 8 * (2 * LEGBARO_RECORD_BYTES - 1));
     call_finish(&call, LEGBARO_BAD_RECORD + 256 * 2, "bit flipped in record 2's tag");
 
+    without_right(file);
     counter_at_most(file);
     broken_loads(file);
     broken_batches(file);

@@ -80,7 +80,8 @@ uint64_t second_set_up(const uint8_t *master, size_t master_length,
                        uint8_t *table, size_t table_length,
                        uint8_t *totals, size_t totals_length);
 
-uint64_t second_update(const uint8_t *master, size_t master_length,
+uint64_t second_update(uint64_t role,
+                       const uint8_t *master, size_t master_length,
                        uint8_t *card, size_t card_length,
                        uint8_t *table, size_t table_length,
                        uint64_t m,
@@ -89,7 +90,8 @@ uint64_t second_update(const uint8_t *master, size_t master_length,
                        const uint8_t *new_block, size_t new_block_length,
                        uint8_t *totals, size_t totals_length);
 
-uint64_t second_delete(const uint8_t *master, size_t master_length,
+uint64_t second_delete(uint64_t role,
+                       const uint8_t *master, size_t master_length,
                        uint8_t *card, size_t card_length,
                        uint8_t *table, size_t table_length,
                        uint64_t m,
@@ -97,25 +99,29 @@ uint64_t second_delete(const uint8_t *master, size_t master_length,
                        const uint8_t *mark, size_t mark_length,
                        uint8_t *totals, size_t totals_length);
 
-uint64_t second_append(const uint8_t *master, size_t master_length,
+uint64_t second_append(uint64_t role,
+                       const uint8_t *master, size_t master_length,
                        uint8_t *card, size_t card_length,
                        uint8_t *table, size_t table_length,
                        const uint8_t *new_block, size_t new_block_length,
                        uint8_t *totals, size_t totals_length);
 
-uint64_t second_load(const uint8_t *master, size_t master_length,
+uint64_t second_load(uint64_t role,
+                     const uint8_t *master, size_t master_length,
                      uint8_t *card, size_t card_length,
                      uint8_t *table, size_t table_length,
                      const uint8_t *blocks, size_t blocks_length,
                      uint8_t *totals, size_t totals_length);
 
-uint64_t second_batch(const uint8_t *master, size_t master_length,
+uint64_t second_batch(uint64_t role,
+                      const uint8_t *master, size_t master_length,
                       uint8_t *card, size_t card_length,
                       uint8_t *table, size_t table_length,
                       const uint8_t *items, size_t items_length,
                       uint8_t *totals, size_t totals_length);
 
-uint64_t second_ask_update(const uint8_t *master, size_t master_length,
+uint64_t second_ask_update(uint64_t role,
+                           const uint8_t *master, size_t master_length,
                            uint8_t *card, size_t card_length,
                            const uint8_t *table, size_t table_length,
                            uint8_t *second, size_t second_length,
@@ -125,7 +131,8 @@ uint64_t second_ask_update(const uint8_t *master, size_t master_length,
                            const uint8_t *new_block, size_t new_block_length,
                            uint8_t *totals, size_t totals_length);
 
-uint64_t second_ask_delete(const uint8_t *master, size_t master_length,
+uint64_t second_ask_delete(uint64_t role,
+                           const uint8_t *master, size_t master_length,
                            uint8_t *card, size_t card_length,
                            const uint8_t *table, size_t table_length,
                            uint8_t *second, size_t second_length,
@@ -134,41 +141,47 @@ uint64_t second_ask_delete(const uint8_t *master, size_t master_length,
                            const uint8_t *mark, size_t mark_length,
                            uint8_t *totals, size_t totals_length);
 
-uint64_t second_ask_append(const uint8_t *master, size_t master_length,
+uint64_t second_ask_append(uint64_t role,
+                           const uint8_t *master, size_t master_length,
                            uint8_t *card, size_t card_length,
                            const uint8_t *table, size_t table_length,
                            uint8_t *second, size_t second_length,
                            const uint8_t *new_block, size_t new_block_length,
                            uint8_t *totals, size_t totals_length);
 
-uint64_t second_ask_load(const uint8_t *master, size_t master_length,
+uint64_t second_ask_load(uint64_t role,
+                         const uint8_t *master, size_t master_length,
                          uint8_t *card, size_t card_length,
                          const uint8_t *table, size_t table_length,
                          uint8_t *second, size_t second_length,
                          const uint8_t *blocks, size_t blocks_length,
                          uint8_t *totals, size_t totals_length);
 
-uint64_t second_ask_batch(const uint8_t *master, size_t master_length,
+uint64_t second_ask_batch(uint64_t role,
+                          const uint8_t *master, size_t master_length,
                           uint8_t *card, size_t card_length,
                           const uint8_t *table, size_t table_length,
                           uint8_t *second, size_t second_length,
                           const uint8_t *items, size_t items_length,
                           uint8_t *totals, size_t totals_length);
 
-uint64_t second_commit(uint8_t *card, size_t card_length);
-uint64_t second_drop(uint8_t *card, size_t card_length);
+uint64_t second_commit(uint64_t role, uint8_t *card, size_t card_length);
+uint64_t second_drop(uint64_t role, uint8_t *card, size_t card_length);
 
-uint64_t second_draw(const uint8_t *master, size_t master_length,
+uint64_t second_draw(uint64_t role,
+                     const uint8_t *master, size_t master_length,
                      uint8_t *card, size_t card_length,
                      uint8_t *message, size_t message_length,
                      const uint8_t *plan, size_t plan_length,
                      uint64_t year, uint64_t month, uint64_t day, uint64_t minute);
 
-uint64_t second_judge(const uint8_t *master, size_t master_length,
+uint64_t second_judge(uint64_t role,
+                      const uint8_t *master, size_t master_length,
                       uint8_t *card, size_t card_length,
                       const uint8_t *reply, size_t reply_length);
 
-uint64_t second_cause(const uint8_t *master, size_t master_length,
+uint64_t second_cause(uint64_t role,
+                      const uint8_t *master, size_t master_length,
                       const uint8_t *card, size_t card_length,
                       const uint8_t *reply, size_t reply_length);
 
@@ -207,14 +220,14 @@ size_t second_item_bytes(const struct card *c);
 int second_token(const uint8_t *master, const struct card *c, const uint8_t *table, uint64_t i, uint8_t *token);
 
 /* The code of a change in one step and of an ask, code 7 apart, of a commit or drop, of a draw, and of a judging before its verdict. */
-uint64_t second_change_fault(const struct edit *edit, size_t master_length, const uint8_t *card, size_t card_length, size_t table_length,
-                             size_t totals_length);
-uint64_t second_ask_fault(const struct edit *edit, size_t master_length, const uint8_t *card, size_t card_length, size_t table_length,
-                          size_t second_length, size_t totals_length);
-uint64_t second_settle_fault(const uint8_t *card, size_t card_length);
-uint64_t second_draw_fault(size_t master_length, const uint8_t *card, size_t card_length, size_t message_length, const uint8_t *plan,
-                           size_t plan_length, const struct when *when);
-uint64_t second_judge_fault(size_t master_length, const uint8_t *card, size_t card_length);
+uint64_t second_change_fault(uint64_t role, const struct edit *edit, size_t master_length, const uint8_t *card, size_t card_length,
+                             size_t table_length, size_t totals_length);
+uint64_t second_ask_fault(uint64_t role, const struct edit *edit, size_t master_length, const uint8_t *card, size_t card_length,
+                          size_t table_length, size_t second_length, size_t totals_length);
+uint64_t second_settle_fault(uint64_t role, const uint8_t *card, size_t card_length);
+uint64_t second_draw_fault(uint64_t role, size_t master_length, const uint8_t *card, size_t card_length, size_t message_length,
+                           const uint8_t *plan, size_t plan_length, const struct when *when);
+uint64_t second_judge_fault(uint64_t role, size_t master_length, const uint8_t *card, size_t card_length);
 
 /* The verdict on a reply of any length. */
 uint64_t second_verdict(const uint8_t *master, const struct card *c, const uint8_t *reply, size_t reply_length);

@@ -6,9 +6,11 @@
 /* ---- Asks ---- */
 
 /* "Only version 3 takes asks (else 2)" */
-uint64_t second_ask_fault(const struct edit *edit, size_t master_length, const uint8_t *card, size_t card_length, size_t table_length,
-                          size_t second_length, size_t totals_length)
+uint64_t second_ask_fault(uint64_t role, const struct edit *edit, size_t master_length, const uint8_t *card, size_t card_length,
+                          size_t table_length, size_t second_length, size_t totals_length)
 {
+    if (!may_change(role, edit->kind))
+        return LEGBARO_NO_RIGHT;
     if (master_length != LEGBARO_MASTER_BYTES || !card_sized(card_length) || totals_length != LEGBARO_TOTALS_BYTES)
         return LEGBARO_WRONG_LENGTH;
     if (version_in(card) != 3)
@@ -23,11 +25,11 @@ uint64_t second_ask_fault(const struct edit *edit, size_t master_length, const u
 
 /* "an ask, which writes a second table, spent records copied, and leaves the first"; "Every ask takes the last issued plus 1, even after a
  * drop" */
-static uint64_t ask(const struct edit *edit, const uint8_t *master, size_t master_length, uint8_t *card, size_t card_length,
-                    const uint8_t *table, size_t table_length, uint8_t *second, size_t second_length, uint8_t *totals,
-                    size_t totals_length)
+static uint64_t ask(uint64_t role, const struct edit *edit, const uint8_t *master, size_t master_length, uint8_t *card,
+                    size_t card_length, const uint8_t *table, size_t table_length, uint8_t *second, size_t second_length,
+                    uint8_t *totals, size_t totals_length)
 {
-    uint64_t fault = second_ask_fault(edit, master_length, card, card_length, table_length, second_length, totals_length);
+    uint64_t fault = second_ask_fault(role, edit, master_length, card, card_length, table_length, second_length, totals_length);
     if (fault)
         return fault;
     struct card c = second_read_card(card);
@@ -42,7 +44,8 @@ static uint64_t ask(const struct edit *edit, const uint8_t *master, size_t maste
     return LEGBARO_OK;
 }
 
-uint64_t second_ask_update(const uint8_t *master, size_t master_length,
+uint64_t second_ask_update(uint64_t role,
+                           const uint8_t *master, size_t master_length,
                            uint8_t *card, size_t card_length,
                            const uint8_t *table, size_t table_length,
                            uint8_t *second, size_t second_length,
@@ -53,10 +56,12 @@ uint64_t second_ask_update(const uint8_t *master, size_t master_length,
                            uint8_t *totals, size_t totals_length)
 {
     struct edit edit = update_edit(m, old_block, old_block_length, mark, mark_length, new_block, new_block_length);
-    return ask(&edit, master, master_length, card, card_length, table, table_length, second, second_length, totals, totals_length);
+    return ask(role, &edit, master, master_length, card, card_length, table, table_length, second, second_length, totals,
+               totals_length);
 }
 
-uint64_t second_ask_delete(const uint8_t *master, size_t master_length,
+uint64_t second_ask_delete(uint64_t role,
+                           const uint8_t *master, size_t master_length,
                            uint8_t *card, size_t card_length,
                            const uint8_t *table, size_t table_length,
                            uint8_t *second, size_t second_length,
@@ -66,10 +71,12 @@ uint64_t second_ask_delete(const uint8_t *master, size_t master_length,
                            uint8_t *totals, size_t totals_length)
 {
     struct edit edit = delete_edit(m, old_block, old_block_length, mark, mark_length);
-    return ask(&edit, master, master_length, card, card_length, table, table_length, second, second_length, totals, totals_length);
+    return ask(role, &edit, master, master_length, card, card_length, table, table_length, second, second_length, totals,
+               totals_length);
 }
 
-uint64_t second_ask_append(const uint8_t *master, size_t master_length,
+uint64_t second_ask_append(uint64_t role,
+                           const uint8_t *master, size_t master_length,
                            uint8_t *card, size_t card_length,
                            const uint8_t *table, size_t table_length,
                            uint8_t *second, size_t second_length,
@@ -77,10 +84,12 @@ uint64_t second_ask_append(const uint8_t *master, size_t master_length,
                            uint8_t *totals, size_t totals_length)
 {
     struct edit edit = {.kind = EDIT_APPEND, .new_blocks = new_block, .new_length = new_block_length};
-    return ask(&edit, master, master_length, card, card_length, table, table_length, second, second_length, totals, totals_length);
+    return ask(role, &edit, master, master_length, card, card_length, table, table_length, second, second_length, totals,
+               totals_length);
 }
 
-uint64_t second_ask_load(const uint8_t *master, size_t master_length,
+uint64_t second_ask_load(uint64_t role,
+                         const uint8_t *master, size_t master_length,
                          uint8_t *card, size_t card_length,
                          const uint8_t *table, size_t table_length,
                          uint8_t *second, size_t second_length,
@@ -88,10 +97,12 @@ uint64_t second_ask_load(const uint8_t *master, size_t master_length,
                          uint8_t *totals, size_t totals_length)
 {
     struct edit edit = {.kind = EDIT_LOAD, .new_blocks = blocks, .new_length = blocks_length};
-    return ask(&edit, master, master_length, card, card_length, table, table_length, second, second_length, totals, totals_length);
+    return ask(role, &edit, master, master_length, card, card_length, table, table_length, second, second_length, totals,
+               totals_length);
 }
 
-uint64_t second_ask_batch(const uint8_t *master, size_t master_length,
+uint64_t second_ask_batch(uint64_t role,
+                          const uint8_t *master, size_t master_length,
                           uint8_t *card, size_t card_length,
                           const uint8_t *table, size_t table_length,
                           uint8_t *second, size_t second_length,
@@ -99,14 +110,17 @@ uint64_t second_ask_batch(const uint8_t *master, size_t master_length,
                           uint8_t *totals, size_t totals_length)
 {
     struct edit edit = {.kind = EDIT_BATCH, .items = items, .items_length = items_length};
-    return ask(&edit, master, master_length, card, card_length, table, table_length, second, second_length, totals, totals_length);
+    return ask(role, &edit, master, master_length, card, card_length, table, table_length, second, second_length, totals,
+               totals_length);
 }
 
 /* ---- Commit and drop ---- */
 
 /* "then a commit or drop with nothing pending (19); commit and drop know no 8 or 10" */
-uint64_t second_settle_fault(const uint8_t *card, size_t card_length)
+uint64_t second_settle_fault(uint64_t role, const uint8_t *card, size_t card_length)
 {
+    if (!may_settle(role))
+        return LEGBARO_NO_RIGHT;
     if (!card_sized(card_length))
         return LEGBARO_WRONG_LENGTH;
     if (card_fault(card, card_length))
@@ -115,9 +129,9 @@ uint64_t second_settle_fault(const uint8_t *card, size_t card_length)
 }
 
 /* "makes its ask's table, as the ask left it, and its counter and count the standing ones" */
-uint64_t second_commit(uint8_t *card, size_t card_length)
+uint64_t second_commit(uint64_t role, uint8_t *card, size_t card_length)
 {
-    uint64_t fault = second_settle_fault(card, card_length);
+    uint64_t fault = second_settle_fault(role, card, card_length);
     if (fault)
         return fault;
     struct card c = second_read_card(card);
@@ -128,9 +142,9 @@ uint64_t second_commit(uint8_t *card, size_t card_length)
     return LEGBARO_OK;
 }
 
-uint64_t second_drop(uint8_t *card, size_t card_length)
+uint64_t second_drop(uint64_t role, uint8_t *card, size_t card_length)
 {
-    uint64_t fault = second_settle_fault(card, card_length);
+    uint64_t fault = second_settle_fault(role, card, card_length);
     if (fault)
         return fault;
     struct card c = second_read_card(card);

@@ -35,11 +35,13 @@ uint64_t second_set_up(const uint8_t *master, size_t master_length,
 
 /* ---- Draw ---- */
 
-/* "It refuses, before everything else, a date or minute outside these (16), and after 3 a draw outside every window (17)"; "straight after
- * 8, an ask, one-step change or draw while something is pending (18)" */
-uint64_t second_draw_fault(size_t master_length, const uint8_t *card, size_t card_length, size_t message_length, const uint8_t *plan,
-                           size_t plan_length, const struct when *when)
+/* "It refuses, before everything else", and behind 22, "a date or minute outside these (16), and after 3 a draw outside every window (17)";
+ * "straight after 8, an ask, one-step change or draw while something is pending (18)" */
+uint64_t second_draw_fault(uint64_t role, size_t master_length, const uint8_t *card, size_t card_length, size_t message_length,
+                           const uint8_t *plan, size_t plan_length, const struct when *when)
 {
+    if (!may_audit(role))
+        return LEGBARO_NO_RIGHT;
     if (!when_fits(when))
         return LEGBARO_BAD_TIME;
     if (master_length != LEGBARO_MASTER_BYTES || !card_sized(card_length) || message_length != LEGBARO_MESSAGE_BYTES ||
@@ -59,14 +61,15 @@ uint64_t second_draw_fault(size_t master_length, const uint8_t *card, size_t car
     return c.next == c.t + 1 ? LEGBARO_NO_TOKEN_LEFT : LEGBARO_OK;
 }
 
-uint64_t second_draw(const uint8_t *master, size_t master_length,
+uint64_t second_draw(uint64_t role,
+                     const uint8_t *master, size_t master_length,
                      uint8_t *card, size_t card_length,
                      uint8_t *message, size_t message_length,
                      const uint8_t *plan, size_t plan_length,
                      uint64_t year, uint64_t month, uint64_t day, uint64_t minute)
 {
     struct when when = {year, month, day, minute};
-    uint64_t fault = second_draw_fault(master_length, card, card_length, message_length, plan, plan_length, &when);
+    uint64_t fault = second_draw_fault(role, master_length, card, card_length, message_length, plan, plan_length, &when);
     if (fault)
         return fault;
     struct card c = second_read_card(card);
@@ -84,8 +87,10 @@ uint64_t second_draw(const uint8_t *master, size_t master_length,
 
 /* ---- Judge ---- */
 
-uint64_t second_judge_fault(size_t master_length, const uint8_t *card, size_t card_length)
+uint64_t second_judge_fault(uint64_t role, size_t master_length, const uint8_t *card, size_t card_length)
 {
+    if (!may_audit(role))
+        return LEGBARO_NO_RIGHT;
     if (master_length != LEGBARO_MASTER_BYTES || !card_sized(card_length))
         return LEGBARO_WRONG_LENGTH;
     if (card_fault(card, card_length))
@@ -109,11 +114,12 @@ uint64_t second_verdict(const uint8_t *master, const struct card *c, const uint8
     return memcmp(token, sent, sizeof token) == 0 ? LEGBARO_OK : LEGBARO_REJECTED;
 }
 
-uint64_t second_judge(const uint8_t *master, size_t master_length,
+uint64_t second_judge(uint64_t role,
+                      const uint8_t *master, size_t master_length,
                       uint8_t *card, size_t card_length,
                       const uint8_t *reply, size_t reply_length)
 {
-    uint64_t fault = second_judge_fault(master_length, card, card_length);
+    uint64_t fault = second_judge_fault(role, master_length, card, card_length);
     if (fault)
         return fault;
     struct card c = second_read_card(card);
@@ -150,11 +156,12 @@ static uint64_t cause_of(const uint8_t *master, const struct card *c, const uint
 }
 
 /* "It shares judge's checks, 9 included" */
-uint64_t second_cause(const uint8_t *master, size_t master_length,
+uint64_t second_cause(uint64_t role,
+                      const uint8_t *master, size_t master_length,
                       const uint8_t *card, size_t card_length,
                       const uint8_t *reply, size_t reply_length)
 {
-    uint64_t fault = second_judge_fault(master_length, card, card_length);
+    uint64_t fault = second_judge_fault(role, master_length, card, card_length);
     if (fault)
         return fault;
     struct card c = second_read_card(card);

@@ -48,9 +48,12 @@ uint64_t edit_fault(const struct edit *edit, const struct card *c, size_t table_
     return c->last_issued == LEGBARO_MOST_COUNTER ? LEGBARO_COUNTER_AT_MOST : LEGBARO_OK;
 }
 
-uint64_t second_change_fault(const struct edit *edit, size_t master_length, const uint8_t *card, size_t card_length, size_t table_length,
-                             size_t totals_length)
+/* "It refuses, ahead of every check, an unknown role or one lacking the right (22)" */
+uint64_t second_change_fault(uint64_t role, const struct edit *edit, size_t master_length, const uint8_t *card, size_t card_length,
+                             size_t table_length, size_t totals_length)
 {
+    if (!may_change(role, edit->kind))
+        return LEGBARO_NO_RIGHT;
     if (master_length != LEGBARO_MASTER_BYTES || !card_sized(card_length) || totals_length != LEGBARO_TOTALS_BYTES)
         return LEGBARO_WRONG_LENGTH;
     if (card_fault(card, card_length))
@@ -166,10 +169,10 @@ uint64_t carry_out(const struct edit *edit, const struct card *c, uint8_t *table
 
 /* The call: its fault, 7 with the lowest unused token whose record does not open, or the change carried out. "A one-step change, load or
  * batch too, is ask and commit together" */
-static uint64_t change(const struct edit *edit, const uint8_t *master, size_t master_length, uint8_t *card, size_t card_length,
-                       uint8_t *table, size_t table_length, uint8_t *totals, size_t totals_length)
+static uint64_t change(uint64_t role, const struct edit *edit, const uint8_t *master, size_t master_length, uint8_t *card,
+                       size_t card_length, uint8_t *table, size_t table_length, uint8_t *totals, size_t totals_length)
 {
-    uint64_t fault = second_change_fault(edit, master_length, card, card_length, table_length, totals_length);
+    uint64_t fault = second_change_fault(role, edit, master_length, card, card_length, table_length, totals_length);
     if (fault)
         return fault;
     struct card c = second_read_card(card);
@@ -204,7 +207,8 @@ struct edit delete_edit(uint64_t m, const uint8_t *old_block, size_t old_length,
     return edit;
 }
 
-uint64_t second_update(const uint8_t *master, size_t master_length,
+uint64_t second_update(uint64_t role,
+                       const uint8_t *master, size_t master_length,
                        uint8_t *card, size_t card_length,
                        uint8_t *table, size_t table_length,
                        uint64_t m,
@@ -214,10 +218,11 @@ uint64_t second_update(const uint8_t *master, size_t master_length,
                        uint8_t *totals, size_t totals_length)
 {
     struct edit edit = update_edit(m, old_block, old_block_length, mark, mark_length, new_block, new_block_length);
-    return change(&edit, master, master_length, card, card_length, table, table_length, totals, totals_length);
+    return change(role, &edit, master, master_length, card, card_length, table, table_length, totals, totals_length);
 }
 
-uint64_t second_delete(const uint8_t *master, size_t master_length,
+uint64_t second_delete(uint64_t role,
+                       const uint8_t *master, size_t master_length,
                        uint8_t *card, size_t card_length,
                        uint8_t *table, size_t table_length,
                        uint64_t m,
@@ -226,35 +231,38 @@ uint64_t second_delete(const uint8_t *master, size_t master_length,
                        uint8_t *totals, size_t totals_length)
 {
     struct edit edit = delete_edit(m, old_block, old_block_length, mark, mark_length);
-    return change(&edit, master, master_length, card, card_length, table, table_length, totals, totals_length);
+    return change(role, &edit, master, master_length, card, card_length, table, table_length, totals, totals_length);
 }
 
-uint64_t second_append(const uint8_t *master, size_t master_length,
+uint64_t second_append(uint64_t role,
+                       const uint8_t *master, size_t master_length,
                        uint8_t *card, size_t card_length,
                        uint8_t *table, size_t table_length,
                        const uint8_t *new_block, size_t new_block_length,
                        uint8_t *totals, size_t totals_length)
 {
     struct edit edit = {.kind = EDIT_APPEND, .new_blocks = new_block, .new_length = new_block_length};
-    return change(&edit, master, master_length, card, card_length, table, table_length, totals, totals_length);
+    return change(role, &edit, master, master_length, card, card_length, table, table_length, totals, totals_length);
 }
 
-uint64_t second_load(const uint8_t *master, size_t master_length,
+uint64_t second_load(uint64_t role,
+                     const uint8_t *master, size_t master_length,
                      uint8_t *card, size_t card_length,
                      uint8_t *table, size_t table_length,
                      const uint8_t *blocks, size_t blocks_length,
                      uint8_t *totals, size_t totals_length)
 {
     struct edit edit = {.kind = EDIT_LOAD, .new_blocks = blocks, .new_length = blocks_length};
-    return change(&edit, master, master_length, card, card_length, table, table_length, totals, totals_length);
+    return change(role, &edit, master, master_length, card, card_length, table, table_length, totals, totals_length);
 }
 
-uint64_t second_batch(const uint8_t *master, size_t master_length,
+uint64_t second_batch(uint64_t role,
+                      const uint8_t *master, size_t master_length,
                       uint8_t *card, size_t card_length,
                       uint8_t *table, size_t table_length,
                       const uint8_t *items, size_t items_length,
                       uint8_t *totals, size_t totals_length)
 {
     struct edit edit = {.kind = EDIT_BATCH, .items = items, .items_length = items_length};
-    return change(&edit, master, master_length, card, card_length, table, table_length, totals, totals_length);
+    return change(role, &edit, master, master_length, card, card_length, table, table_length, totals, totals_length);
 }

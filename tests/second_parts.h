@@ -2,6 +2,7 @@
  * What the files of the second implementation share. Tests use second.h alone.
  *
  *   second_records.c       numbers and bytes, card and message, limits
+ *   second_roles.c         who may do what
  *   second_permutation.c   the permutation P
  *   second_tokens.c        keys, tokens, token records
  *   second_changes.c       update, delete, append, load, batch
@@ -59,6 +60,13 @@ int message_fits(const struct message *m);
 /* Whether a card of some version has so many bytes; then the code that the card itself gives (2, then 3). */
 int card_sized(size_t length);
 uint64_t card_fault(const uint8_t *card, size_t length);
+
+/* ---- second_roles.c ---- */
+
+/* Whether a role may make a change, in one step or asked; commit or drop; draw, judge and ask the cause. */
+int may_change(uint64_t role, enum edit_kind kind);
+int may_settle(uint64_t role);
+int may_audit(uint64_t role);
 
 /* ---- second_permutation.c ---- */
 

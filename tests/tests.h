@@ -38,6 +38,9 @@ void test_pending(void);
 /* Totals: what calls count beside what other calls count, and the bounds that a planner may quote. */
 void test_totals(void);
 
+/* Who may do what: every call by every role, whatever else is lent. */
+void test_roles(void);
+
 /* Why a reply is rejected: each cause alone and all sets of them, and no cause exactly where judge accepts. */
 void test_causes(void);
 

@@ -26,10 +26,10 @@ static void versions_at_set_up(void)
 }
 
 /* A call with a byte of one of its buffers altered. */
-static void with_byte(const struct file *file, enum kind kind, enum role role, size_t at, uint64_t value, uint64_t number)
+static void with_byte(const struct file *file, enum kind kind, enum argument argument, size_t at, uint64_t value, uint64_t number)
 {
     struct call call = file_call(file, kind);
-    call.lent[role].bytes[at] = (uint8_t)value;
+    call.lent[argument].bytes[at] = (uint8_t)value;
     call_finish(&call, number, "another version");
 }
 

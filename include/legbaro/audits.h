@@ -14,6 +14,7 @@ extern "C" {
 /*
  * Draw: opens the next token and writes the message that challenges the host for it.
  *
+ *   role       LEGBARO_PLANNER or LEGBARO_MANAGER
  *   master     LEGBARO_MASTER_BYTES
  *   card       of the file's version, written: next becomes open, and next rises by 1
  *   message    LEGBARO_MESSAGE_BYTES, written
@@ -22,9 +23,10 @@ extern "C" {
  *
  * Until the reply is judged no change, no ask and no further draw is accepted. The message holds the keys of this token alone. While a
  * change is pending nothing is drawn: commit or drop it first.
- * Codes: 16, 1 (master, card, message, plan), 2, 3 (card, plan), 17, 8, 18, 6. With 17 legbaro_wait tells how long to wait.
+ * Codes: 22, 16, 1 (master, card, message, plan), 2, 3 (card, plan), 17, 8, 18, 6. With 17 legbaro_wait tells how long to wait.
  */
-uint64_t legbaro_draw(const uint8_t *master, size_t master_length,
+uint64_t legbaro_draw(uint64_t role,
+                      const uint8_t *master, size_t master_length,
                       uint8_t *card, size_t card_length,
                       uint8_t *message, size_t message_length,
                       const uint8_t *plan, size_t plan_length,
@@ -46,25 +48,28 @@ uint64_t legbaro_wait(const uint8_t *plan, size_t plan_length,
 /*
  * Judge: 0 where the reply proves that the host holds the rows drawn as they are now, else LEGBARO_REJECTED.
  *
+ *   role       LEGBARO_PLANNER or LEGBARO_MANAGER
  *   master     LEGBARO_MASTER_BYTES
  *   card       of the file's version, written by either verdict: no token is open
  *   reply      what the host sent, of any length
  *
- * Codes: 1 (master, card), 2, 3, 9, then the verdict 0 or 11. legbaro_cause, asked before, tells why a reply is rejected.
+ * Codes: 22, 1 (master, card), 2, 3, 9, then the verdict 0 or 11. legbaro_cause, asked before, tells why a reply is rejected.
  */
-uint64_t legbaro_judge(const uint8_t *master, size_t master_length,
+uint64_t legbaro_judge(uint64_t role,
+                       const uint8_t *master, size_t master_length,
                        uint8_t *card, size_t card_length,
                        const uint8_t *reply, size_t reply_length);
 
 /*
  * Cause: why judge would reject a reply. It writes nothing.
  *
+ *   role       LEGBARO_PLANNER or LEGBARO_MANAGER
  *   master     LEGBARO_MASTER_BYTES
  *   card       of the file's version, with the token open: ask before judge, which closes it
  *   reply      what the host sent, of any length
  *
- * Returns code 0 and a number: 0 exactly where judge would accept the reply, else the first of the causes below that holds. What a planner
- * tells the host:
+ * Returns code 0 and a number: 0 exactly where judge would accept the reply, else the first of the causes below that holds. What the
+ * host is told then:
  *
  *   LEGBARO_CAUSE_SIZE      the reply was cut or lengthened on the way, or is none: send it again
  *   LEGBARO_CAUSE_HEADER    reply or record are not of this file's version, or are no such records: run the program and the table that
@@ -79,9 +84,10 @@ uint64_t legbaro_judge(const uint8_t *master, size_t master_length,
  *                           host has lost what it was to keep
  *
  * A reply that came to harm on its way may be sent again and judged then, since the token stays open.
- * Codes: 1 (master, card), 2, 3, 9, as judge's.
+ * Codes: 22, 1 (master, card), 2, 3, 9, as judge's.
  */
-uint64_t legbaro_cause(const uint8_t *master, size_t master_length,
+uint64_t legbaro_cause(uint64_t role,
+                       const uint8_t *master, size_t master_length,
                        const uint8_t *card, size_t card_length,
                        const uint8_t *reply, size_t reply_length);
 

@@ -3,6 +3,7 @@
  *
  * What is alike in every change, asked or in one step:
  *
+ *   role       LEGBARO_PLANNER; to append or load, in one step or asked, LEGBARO_SURVEYOR too
  *   master     LEGBARO_MASTER_BYTES
  *   card       LEGBARO_CARD_BYTES, or in version 3 LEGBARO_TWO_STEP_CARD_BYTES; written
  *   table      t * LEGBARO_RECORD_BYTES: the standing table. In one step it is written: every unused record, which is every one from next
@@ -59,9 +60,10 @@ uint64_t legbaro_set_up(const uint8_t *master, size_t master_length,
  *   mark       one byte, the block's mark as it is; in version 1 empty
  *   new_block  B bytes; where there are marks the block is then live
  *
- * Codes: 1 (master, card, totals), 2, 3, 1 (table, old_block, mark, new_block), 15, 8, 18, 4, 10, 7.
+ * Codes: 22, 1 (master, card, totals), 2, 3, 1 (table, old_block, mark, new_block), 15, 8, 18, 4, 10, 7.
  */
-uint64_t legbaro_update(const uint8_t *master, size_t master_length,
+uint64_t legbaro_update(uint64_t role,
+                        const uint8_t *master, size_t master_length,
                         uint8_t *card, size_t card_length,
                         uint8_t *table, size_t table_length,
                         uint64_t block,
@@ -76,9 +78,10 @@ uint64_t legbaro_update(const uint8_t *master, size_t master_length,
  *
  *   block, old_block, mark   as in an update
  *
- * Codes: 1 (master, card, totals), 2, 3, 1 (table, old_block, mark), 15, 8, 18, 4, 10, 7.
+ * Codes: 22, 1 (master, card, totals), 2, 3, 1 (table, old_block, mark), 15, 8, 18, 4, 10, 7.
  */
-uint64_t legbaro_delete(const uint8_t *master, size_t master_length,
+uint64_t legbaro_delete(uint64_t role,
+                        const uint8_t *master, size_t master_length,
                         uint8_t *card, size_t card_length,
                         uint8_t *table, size_t table_length,
                         uint64_t block,
@@ -88,9 +91,10 @@ uint64_t legbaro_delete(const uint8_t *master, size_t master_length,
 
 /*
  * Append: new_block, B bytes, comes behind the last block, and is live. n rises by 1.
- * Codes: 1 (master, card, totals), 2, 3, 1 (table, new_block), 8, 18, 5, 10, 7.
+ * Codes: 22, 1 (master, card, totals), 2, 3, 1 (table, new_block), 8, 18, 5, 10, 7.
  */
-uint64_t legbaro_append(const uint8_t *master, size_t master_length,
+uint64_t legbaro_append(uint64_t role,
+                        const uint8_t *master, size_t master_length,
                         uint8_t *card, size_t card_length,
                         uint8_t *table, size_t table_length,
                         const uint8_t *new_block, size_t new_block_length,
@@ -107,9 +111,10 @@ uint64_t legbaro_append(const uint8_t *master, size_t master_length,
  * fetched, sealed again and sent back once and not once for each block, and a thousand blocks take a small part of the time that a
  * thousand appends take. All of a load is taken or none of it.
  *
- * Codes: 1 (master, card, totals), 2, 3, 1 (table), 8, 18, 12, 5, 10, 7. The length of blocks is told by 12, never by 1.
+ * Codes: 22, 1 (master, card, totals), 2, 3, 1 (table), 8, 18, 12, 5, 10, 7. The length of blocks is told by 12, never by 1.
  */
-uint64_t legbaro_load(const uint8_t *master, size_t master_length,
+uint64_t legbaro_load(uint64_t role,
+                      const uint8_t *master, size_t master_length,
                       uint8_t *card, size_t card_length,
                       uint8_t *table, size_t table_length,
                       const uint8_t *blocks, size_t blocks_length,
@@ -127,10 +132,11 @@ uint64_t legbaro_load(const uint8_t *master, size_t master_length,
  * once and not once for each of them, and every unused record is opened and sealed once. What each item costs is a walk, and two hashes
  * where the token draws its row. All of a batch is taken or none of it.
  *
- * Codes: 1 (master, card, totals), 2, 3, 1 (table), 8, 18, 14, 15, 4, 10, 7. The length of items is told by 14, never by 1. With 14, 15 or
- * 4 nothing tells which item it was.
+ * Codes: 22, 1 (master, card, totals), 2, 3, 1 (table), 8, 18, 14, 15, 4, 10, 7. The length of items is told by 14, never by 1. With 14, 15
+ * or 4 nothing tells which item it was.
  */
-uint64_t legbaro_batch(const uint8_t *master, size_t master_length,
+uint64_t legbaro_batch(uint64_t role,
+                       const uint8_t *master, size_t master_length,
                        uint8_t *card, size_t card_length,
                        uint8_t *table, size_t table_length,
                        const uint8_t *items, size_t items_length,
@@ -151,7 +157,8 @@ uint64_t legbaro_batch(const uint8_t *master, size_t master_length,
  * Codes: those of the change in one step in their order, with 2 also for a card of version 1 or 2, and second beside the table in the
  * later 1.
  */
-uint64_t legbaro_ask_update(const uint8_t *master, size_t master_length,
+uint64_t legbaro_ask_update(uint64_t role,
+                            const uint8_t *master, size_t master_length,
                             uint8_t *card, size_t card_length,
                             const uint8_t *table, size_t table_length,
                             uint8_t *second, size_t second_length,
@@ -161,7 +168,8 @@ uint64_t legbaro_ask_update(const uint8_t *master, size_t master_length,
                             const uint8_t *new_block, size_t new_block_length,
                             uint8_t *totals, size_t totals_length);
 
-uint64_t legbaro_ask_delete(const uint8_t *master, size_t master_length,
+uint64_t legbaro_ask_delete(uint64_t role,
+                            const uint8_t *master, size_t master_length,
                             uint8_t *card, size_t card_length,
                             const uint8_t *table, size_t table_length,
                             uint8_t *second, size_t second_length,
@@ -170,21 +178,24 @@ uint64_t legbaro_ask_delete(const uint8_t *master, size_t master_length,
                             const uint8_t *mark, size_t mark_length,
                             uint8_t *totals, size_t totals_length);
 
-uint64_t legbaro_ask_append(const uint8_t *master, size_t master_length,
+uint64_t legbaro_ask_append(uint64_t role,
+                            const uint8_t *master, size_t master_length,
                             uint8_t *card, size_t card_length,
                             const uint8_t *table, size_t table_length,
                             uint8_t *second, size_t second_length,
                             const uint8_t *new_block, size_t new_block_length,
                             uint8_t *totals, size_t totals_length);
 
-uint64_t legbaro_ask_load(const uint8_t *master, size_t master_length,
+uint64_t legbaro_ask_load(uint64_t role,
+                          const uint8_t *master, size_t master_length,
                           uint8_t *card, size_t card_length,
                           const uint8_t *table, size_t table_length,
                           uint8_t *second, size_t second_length,
                           const uint8_t *blocks, size_t blocks_length,
                           uint8_t *totals, size_t totals_length);
 
-uint64_t legbaro_ask_batch(const uint8_t *master, size_t master_length,
+uint64_t legbaro_ask_batch(uint64_t role,
+                           const uint8_t *master, size_t master_length,
                            uint8_t *card, size_t card_length,
                            const uint8_t *table, size_t table_length,
                            uint8_t *second, size_t second_length,
@@ -196,21 +207,23 @@ uint64_t legbaro_ask_batch(const uint8_t *master, size_t master_length,
  * the second table, as the ask left it, is the standing one, and the change belongs to the file. Commit when the host has said that it has
  * the second table and what changed, whole.
  *
+ *   role       LEGBARO_PLANNER
  *   card       LEGBARO_TWO_STEP_CARD_BYTES, written
  *
- * Codes: 1, 2, 3, 19. A card of version 1 or 2 has nothing pending: 19.
+ * Codes: 22, 1, 2, 3, 19. A card of version 1 or 2 has nothing pending: 19.
  */
-uint64_t legbaro_commit(uint8_t *card, size_t card_length);
+uint64_t legbaro_commit(uint64_t role, uint8_t *card, size_t card_length);
 
 /*
  * Drop: what is pending is given up. Counter and number of blocks stay, and so do the table and the file; the last counter issued stays
  * issued, so that the next ask takes another one. The second table must not be used any more.
  *
+ *   role       LEGBARO_PLANNER
  *   card       LEGBARO_TWO_STEP_CARD_BYTES, written: nothing is pending any more
  *
- * Codes: 1, 2, 3, 19, as commit's.
+ * Codes: 22, 1, 2, 3, 19, as commit's.
  */
-uint64_t legbaro_drop(uint8_t *card, size_t card_length);
+uint64_t legbaro_drop(uint64_t role, uint8_t *card, size_t card_length);
 
 #ifdef __cplusplus
 }

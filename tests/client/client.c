@@ -6,9 +6,9 @@
 #define R 2
 #define T 1
 
-/* A buffer as the calls take it, and the file's own three. */
+/* A buffer as the calls take it; who makes a change, and the file's own three. */
 #define LENT(bytes) bytes, sizeof bytes
-#define FILE_LENT LENT(master), LENT(card), LENT(table)
+#define FILE_LENT LEGBARO_PLANNER, LENT(master), LENT(card), LENT(table)
 
 static const uint8_t master[LEGBARO_MASTER_BYTES] = {1}, id[LEGBARO_ID_BYTES] = {2}, zeros[B] = {0};
 static const uint8_t block[B] = {3}, two[2 * B] = {0}, live[1] = {LEGBARO_LIVE};
@@ -35,17 +35,17 @@ static uint64_t changes(void)
 static uint64_t asks(void)
 {
     uint64_t numbers = legbaro_ask_append(FILE_LENT, LENT(second), LENT(zeros), LENT(totals));
-    numbers |= legbaro_drop(LENT(card));
+    numbers |= legbaro_drop(LEGBARO_PLANNER, LENT(card));
     numbers |= legbaro_ask_load(FILE_LENT, LENT(second), LENT(two), LENT(totals));
-    numbers |= legbaro_drop(LENT(card));
+    numbers |= legbaro_drop(LEGBARO_PLANNER, LENT(card));
     numbers |= legbaro_ask_update(FILE_LENT, LENT(second), 2, LENT(zeros), LENT(live), LENT(block), LENT(totals));
-    numbers |= legbaro_drop(LENT(card));
+    numbers |= legbaro_drop(LEGBARO_PLANNER, LENT(card));
     numbers |= legbaro_ask_delete(FILE_LENT, LENT(second), 2, LENT(zeros), LENT(live), LENT(totals));
-    numbers |= legbaro_drop(LENT(card));
+    numbers |= legbaro_drop(LEGBARO_PLANNER, LENT(card));
     numbers |= legbaro_ask_batch(FILE_LENT, LENT(second), LENT(items), LENT(totals));
-    numbers |= legbaro_drop(LENT(card));
+    numbers |= legbaro_drop(LEGBARO_PLANNER, LENT(card));
     numbers |= legbaro_ask_update(FILE_LENT, LENT(second), 2, LENT(zeros), LENT(live), LENT(zeros), LENT(totals));
-    numbers |= legbaro_commit(LENT(card));
+    numbers |= legbaro_commit(LEGBARO_PLANNER, LENT(card));
     return numbers;
 }
 
@@ -53,10 +53,10 @@ static uint64_t asks(void)
 static uint64_t audit(void)
 {
     uint64_t numbers = legbaro_wait(LENT(plan), 2026, 11, 16, 0);
-    numbers |= legbaro_draw(LENT(master), LENT(card), LENT(message), LENT(plan), 2026, 11, 16, 0);
+    numbers |= legbaro_draw(LEGBARO_MANAGER, LENT(master), LENT(card), LENT(message), LENT(plan), 2026, 11, 16, 0);
     numbers |= legbaro_prove(LENT(message), LENT(blocks), LENT(marks), LENT(second), LENT(reply), LENT(totals));
-    numbers |= legbaro_cause(LENT(master), LENT(card), LENT(reply));
-    numbers |= legbaro_judge(LENT(master), LENT(card), LENT(reply));
+    numbers |= legbaro_cause(LEGBARO_MANAGER, LENT(master), LENT(card), LENT(reply));
+    numbers |= legbaro_judge(LEGBARO_MANAGER, LENT(master), LENT(card), LENT(reply));
     return numbers;
 }
 

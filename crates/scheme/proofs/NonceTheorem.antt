@@ -9,7 +9,7 @@ use native.Mathlib.Decide.{ℕ-discrete}
 use mathlib.Core.Path.{_≡_, refl, sym, ap, _∙_, subst}
 use mathlib.Core.Logic.{_⊎_, inl, inr}
 use mathlib.Core.List.{List, [], _∷_, _++_, append-assoc}
-use mathlib.Core.Bool.{true, or-true}
+use mathlib.Core.Bool.{Bool, true, false, or-true}
 use borrow.Author.Tests.{eq-eqb}
 use lib.ListN.{length, length-append}
 use lib.Dec.{eqb}
@@ -24,7 +24,9 @@ use Rattle.scheme.specs.Table.{sealedRecord, resealedRecord}
 use Rattle.scheme.specs.Changes.{Edit, askedCard, committedCard, droppedCard, changedCard, changeCode, changeCard, changeTable}
 use Rattle.scheme.specs.Calls.{setUpCode, setUpCard, setUpTable, turnedCard, Moment, drawCode, drawCard, judgeFault, judgeCard}
 use Rattle.scheme.specs.Asks.{settleCode, commitCard, dropCard, askCode, askCard}
-use Rattle.scheme.specs.Book.{Call, change, ask, commit, drop, draw, judge, Lent, started, bookCard, callCode, callCard, callTable, callAsked}
+use Rattle.scheme.specs.Roles.{permits, under}
+use Rattle.scheme.specs.Runs.{Call, change, ask, commit, drop, draw, judge, deedOf, Lent, callCard, lentCode, lentCard, lentTable, lentAsked}
+use Rattle.scheme.specs.Book.{started, bookCard}
 use Rattle.scheme.specs.Nonces.{Rising, noncesFrom, unusedNonces, Missing, Once, takes, writes, taken, sealed, counters, seals}
 use Rattle.scheme.proofs.TokenLaws.{length-digest}
 use Rattle.scheme.proofs.RecordLaws.{sealed-ctr, sealed-i, record-long, record-at}
@@ -116,19 +118,21 @@ module _ (P : Primitives) where
   record Still (x : Lent) (card table : List ℕ) : Type 0 where
     none-taken : taken P x card table ≡ []
     none-sealed : sealed P x card table ≡ []
-    stays : (readCard (callCard P (x .master) (x .call) card table)) .last ≡ (readCard card) .last
+    stays : (readCard (lentCard P x card table)) .last ≡ (readCard card) .last
 
   record Steps (x : Lent) (card table : List ℕ) (k : ℕ) : Type 0 where
     one-taken : taken P x card table ≡ k ∷ []
     all-under : sealed P x card table ≡ pairsFrom k ((readCard card) .t + 1 - (readCard card) .next) ((readCard card) .next)
     above : (readCard card) .last < k
-    rises : (readCard (callCard P (x .master) (x .call) card table)) .last ≡ k
+    rises : (readCard (lentCard P x card table)) .last ≡ k
 
-  module _ (master card table : List ℕ) where
-    still : (x : Call) → (readCard (callCard P master x card table)) .last ≡ (readCard card) .last → takes P master x card table ≡ [] → writes P master x card table ≡ []
-        → Still (record { master = master; call = x }) card table
-    unfolding taken sealed
-    still x e f g = let n = callCode P master x card table in record { none-taken = rw f (nothing n); none-sealed = rw g (nothing n); stays = e }
+  module _ (role : ℕ) (master card table : List ℕ) where
+    still : (x : Call) → permits role (deedOf x) ≡ true → (readCard (callCard P master x card table)) .last ≡ (readCard card) .last → takes P master x card table ≡ [] → writes P master x card table ≡ []
+        → Still (record { role = role; master = master; call = x }) card table
+    unfolding taken sealed under
+    still x may e f g =
+        let n = lentCode P (record { role = role; master = master; call = x }) card table in
+        record { none-taken = rw f (nothing n); none-sealed = rw g (nothing n); stays = rw may e }
 
     last-commit : (readCard (commitCard card)) .last ≡ (readCard card) .last
     unfolding commitCard
@@ -172,65 +176,75 @@ module _ (P : Primitives) where
             turned-order c (h .order) (c .next) 0 (idle (h .order) (h .some-open) (c .pending) refl) (limits .next1) (limits .nextmost) refl
 
     -- an accepted change, and an accepted ask, which writes what the change would
-    change-steps : (edit : Edit) (totals : List ℕ) → changeCode P master card table edit totals ≡ 0
-        → Steps (record { master = master; call = change edit totals }) card table ((readCard card) .last + 1)
-    unfolding taken sealed
-    change-steps edit totals ok =
+    change-steps : (edit : Edit) (totals : List ℕ) → permits role (deedOf (change edit totals)) ≡ true → changeCode P master card table edit totals ≡ 0
+        → Steps (record { role = role; master = master; call = change edit totals }) card table ((readCard card) .last + 1)
+    unfolding taken sealed under
+    change-steps edit totals may ok =
         let l = change-last master card table edit totals ok in
-        record { one-taken = rw (ok, l); all-under = rw ok (change-nonces master card table edit totals ok); above = omega arith; rises = l }
+        record { one-taken = rw (may, ok, l); all-under = rw (may, ok) (change-nonces master card table edit totals ok); above = omega arith; rises = rw may l }
 
-    ask-steps : (edit : Edit) (second totals : List ℕ) → askCode P master card table second edit totals ≡ 0
-        → Steps (record { master = master; call = ask edit second totals }) card table ((readCard card) .last + 1)
-    unfolding taken sealed
-    ask-steps edit second totals ok =
+    ask-steps : (edit : Edit) (second totals : List ℕ) → permits role (deedOf (ask edit second totals)) ≡ true → askCode P master card table second edit totals ≡ 0
+        → Steps (record { role = role; master = master; call = ask edit second totals }) card table ((readCard card) .last + 1)
+    unfolding taken sealed under
+    ask-steps edit second totals may ok =
         let h = ask-exactly P master card table second edit totals .0 ok in
         let same = one-step P master card table second edit totals (h .1) (h .2) .table′ (h .0) in
         let l : (readCard (askCard P master card table second edit totals)) .last ≡ (readCard card) .last + 1 =
         rw (read-asked P master card table second edit totals ok) (unfold askedCard in refl) in
-        record { one-taken = rw (ok, l); all-under = rw (ok, same) (change-nonces master card table edit totals (h .0)); above = omega arith; rises = l }
+        record { one-taken = rw (may, ok, l); all-under = rw (may, ok, same) (change-nonces master card table edit totals (h .0)); above = omega arith; rises = rw may l }
 
     -- a refused one
-    refused-change : (edit : Edit) (totals : List ℕ) (n : ℕ) → changeCode P master card table edit totals ≡ suc n → Still (record { master = master; call = change edit totals }) card table
-    unfolding taken sealed changeCard
-    refused-change edit totals n e = record { none-taken = rw e; none-sealed = rw e; stays = rw e }
+    refused-change : (edit : Edit) (totals : List ℕ) (n : ℕ) → permits role (deedOf (change edit totals)) ≡ true → changeCode P master card table edit totals ≡ suc n → Still (record { role = role; master = master; call = change edit totals }) card table
+    unfolding taken sealed changeCard under
+    refused-change edit totals n may e = record { none-taken = rw (may, e); none-sealed = rw (may, e); stays = rw (may, e) }
 
-    refused-ask : (edit : Edit) (second totals : List ℕ) (n : ℕ) → askCode P master card table second edit totals ≡ suc n
-        → Still (record { master = master; call = ask edit second totals }) card table
-    unfolding taken sealed askCard
-    refused-ask edit second totals n e = record { none-taken = rw e; none-sealed = rw e; stays = rw e }
+    refused-ask : (edit : Edit) (second totals : List ℕ) (n : ℕ) → permits role (deedOf (ask edit second totals)) ≡ true → askCode P master card table second edit totals ≡ suc n
+        → Still (record { role = role; master = master; call = ask edit second totals }) card table
+    unfolding taken sealed askCard under
+    refused-ask edit second totals n may e = record { none-taken = rw (may, e); none-sealed = rw (may, e); stays = rw (may, e) }
 
-    either : (x : Call) → Still (record { master = master; call = x }) card table ⊎ Steps (record { master = master; call = x }) card table ((readCard card) .last + 1)
-    either (change edit totals) = go (changeCode P master card table edit totals) refl
+    -- one or the other, of a permitted call
+    abbrev Either : Call → Type 0
+    Either x = Still (record { role = role; master = master; call = x }) card table ⊎ Steps (record { role = role; master = master; call = x }) card table ((readCard card) .last + 1)
+
+    either : (x : Call) → permits role (deedOf x) ≡ true → Either x
+    either (change edit totals) may = go (changeCode P master card table edit totals) refl
       where
-        go : (n : ℕ) → changeCode P master card table edit totals ≡ n
-            → Still (record { master = master; call = change edit totals }) card table ⊎ Steps (record { master = master; call = change edit totals }) card table ((readCard card) .last + 1)
-        go zero e = inr (change-steps edit totals e)
-        go (suc n) e = inl (refused-change edit totals n e)
-    either (ask edit second totals) = go (askCode P master card table second edit totals) refl
+        go : (n : ℕ) → changeCode P master card table edit totals ≡ n → Either (change edit totals)
+        go zero e = inr (change-steps edit totals may e)
+        go (suc n) e = inl (refused-change edit totals n may e)
+    either (ask edit second totals) may = go (askCode P master card table second edit totals) refl
       where
-        go : (n : ℕ) → askCode P master card table second edit totals ≡ n
-            → Still (record { master = master; call = ask edit second totals }) card table
-            ⊎ Steps (record { master = master; call = ask edit second totals }) card table ((readCard card) .last + 1)
-        go zero e = inr (ask-steps edit second totals e)
-        go (suc n) e = inl (refused-ask edit second totals n e)
-    either commit = inl (still commit last-commit refl refl)
-    either drop = inl (still drop last-drop refl refl)
-    either (draw message plan now) = inl (still (draw message plan now) (last-draw message plan now) refl refl)
-    either (judge reply) = inl (still (judge reply) (last-judge reply) refl refl)
+        go : (n : ℕ) → askCode P master card table second edit totals ≡ n → Either (ask edit second totals)
+        go zero e = inr (ask-steps edit second totals may e)
+        go (suc n) e = inl (refused-ask edit second totals n may e)
+    either commit may = inl (still commit may last-commit refl refl)
+    either drop may = inl (still drop may last-drop refl refl)
+    either (draw message plan now) may = inl (still (draw message plan now) may (last-draw message plan now) refl refl)
+    either (judge reply) may = inl (still (judge reply) may (last-judge reply) refl refl)
 
   module _ (x : Lent) (card table : List ℕ) where
     abbrev card′ : List ℕ
-    card′ = callCard P (x .master) (x .call) card table
+    card′ = lentCard P x card table
+
+    -- a call that is not permitted does nothing
+    either-role : Still x card table ⊎ Steps x card table ((readCard card) .last + 1)
+    unfolding taken sealed under
+    either-role = go (permits (x .role) (deedOf (x .call))) refl
+      where
+        go : (may : Bool) → permits (x .role) (deedOf (x .call)) ≡ may → Still x card table ⊎ Steps x card table ((readCard card) .last + 1)
+        go true e = either (x .role) (x .master) card table (x .call) e
+        go false e = inl (record { none-taken = rw e; none-sealed = rw e; stays = rw e })
 
     more-counters : (ms : List ℕ) → Rising ((readCard card′) .last) ms → Rising ((readCard card) .last) (taken P x card table ++ ms)
-    more-counters ms r = go (either (x .master) card table (x .call))
+    more-counters ms r = go either-role
       where
         go : Still x card table ⊎ Steps x card table ((readCard card) .last + 1) → Rising ((readCard card) .last) (taken P x card table ++ ms)
         go (inl s) = rw (s .none-taken) (subst (λ (n : ℕ). Rising n ms) (s .stays) r)
         go (inr s) = rw (s .one-taken) (s .above, subst (λ (n : ℕ). Rising n ms) (s .rises) r)
 
     more-seals : (qs : List (ℕ × ℕ)) → Above ((readCard card′) .last) qs → Once qs → Above ((readCard card) .last) (sealed P x card table ++ qs) × Once (sealed P x card table ++ qs)
-    more-seals qs a o = go (either (x .master) card table (x .call))
+    more-seals qs a o = go either-role
       where
         c : Card
         c = readCard card
@@ -250,13 +264,13 @@ module _ (P : Primitives) where
   seals-rise [] card table asked = tt
   seals-rise (x ∷ xs) card table asked =
       more-counters x card table _
-      (seals-rise xs (card′ x card table) (callTable P (x .master) (x .call) card table asked) (callAsked P (x .master) (x .call) card table asked))
+      (seals-rise xs (card′ x card table) (lentTable P x card table asked) (lentAsked P x card table asked))
 
   seals-above : (xs : List Lent) (card table asked : List ℕ) → Above ((readCard card) .last) (seals P xs card table asked) × Once (seals P xs card table asked)
   unfolding seals
   seals-above [] card table asked = (tt, tt)
   seals-above (x ∷ xs) card table asked =
-      let ih = seals-above xs (card′ x card table) (callTable P (x .master) (x .call) card table asked) (callAsked P (x .master) (x .call) card table asked) in
+      let ih = seals-above xs (card′ x card table) (lentTable P x card table asked) (lentAsked P x card table asked) in
       more-seals x card table _ (ih .0) (ih .1)
 
   -- a record among records one after the other

@@ -17,7 +17,9 @@ use Rattle.scheme.specs.Judging.{causeNumber, cause, verdictOf, verdict}
 use Rattle.scheme.specs.Changes.{Edit, unusedBad, changeChecks, changeCode}
 use Rattle.scheme.specs.Calls.{Moment, drawEarly, drawLate, drawCode, judgeChecks, judgeFault, judgeCode}
 use Rattle.scheme.specs.Asks.{askChecks, askCode, settleChecks, settleCode}
-use Rattle.scheme.specs.Book.{Call, change, ask, commit, drop, draw, judge, Lent, Book, bookCard, callCode, bookTable}
+use Rattle.scheme.specs.Roles.{permits, under}
+use Rattle.scheme.specs.Runs.{Call, change, ask, commit, drop, draw, judge, deedOf, Lent, callCode, lentCode}
+use Rattle.scheme.specs.Book.{Book, bookCard, bookTable}
 use Rattle.scheme.proofs.LadderLaws.{Fine, fine-pass, fine-part, fine-end}
 use Rattle.scheme.proofs.CallLaws.{late-plain}
 use Rattle.scheme.proofs.BookLaws.{Good, back, sound}
@@ -85,16 +87,21 @@ module _ (P : Primitives) (b : Book) (g : Good P b) where
       go zero f = two (eqb (causeNumber (cause P master (readCard (cardBytes (bookCard b))) reply)) 0)
       go (suc n) f = f
 
-  pub fine : (x : Lent) → (length (x .master) ≡ 32 → x .master ≡ b .key) → Fine (callCode P (x .master) (x .call) (cardBytes (bookCard b)) (bookTable P b))
-  fine x k = go (x .call)
+  fine-call : (master : List ℕ) (x : Call) → (length master ≡ 32 → master ≡ b .key) → Fine (callCode P master x (cardBytes (bookCard b)) (bookTable P b))
+  fine-call master (change edit totals) k =
+      by-length master (λ m. changeCode P m (cardBytes (bookCard b)) (bookTable P b) edit totals) k (fine-key edit totals) (fine-other master edit totals)
+  fine-call master (ask edit second totals) k =
+      by-length master (λ m. askCode P m (cardBytes (bookCard b)) (bookTable P b) second edit totals) k (fine-key-ask edit second totals) (fine-other-ask master edit second totals)
+  fine-call master commit k = fine-settle
+  fine-call master drop k = fine-settle
+  fine-call master (draw message plan now) k = fine-draw master message plan now
+  fine-call master (judge reply) k = fine-judge master reply
+
+  -- under its role a call gives the same, or 22
+  pub fine : (x : Lent) → (length (x .master) ≡ 32 → x .master ≡ b .key) → Fine (lentCode P x (cardBytes (bookCard b)) (bookTable P b))
+  unfolding under
+  fine x k = go (permits (x .role) (deedOf (x .call)))
     where
-      go : (y : Call) → Fine (callCode P (x .master) y (cardBytes (bookCard b)) (bookTable P b))
-      go (change edit totals) =
-          by-length (x .master) (λ m. changeCode P m (cardBytes (bookCard b)) (bookTable P b) edit totals) k (fine-key edit totals) (fine-other (x .master) edit totals)
-      go (ask edit second totals) =
-          by-length (x .master) (λ m. askCode P m (cardBytes (bookCard b)) (bookTable P b) second edit totals) k (fine-key-ask edit second totals)
-          (fine-other-ask (x .master) edit second totals)
-      go commit = fine-settle
-      go drop = fine-settle
-      go (draw message plan now) = fine-draw (x .master) message plan now
-      go (judge reply) = fine-judge (x .master) reply
+      go : (may : Bool) → Fine (cond may (callCode P (x .master) (x .call) (cardBytes (bookCard b)) (bookTable P b)) 22)
+      go true = fine-call (x .master) (x .call) k
+      go false = omega arith

@@ -25,19 +25,20 @@ use Rattle.scheme.specs.Table.{there, value}
 use Rattle.scheme.specs.Batches.{Item, itemsOf, itemBlock, batchWork}
 use Rattle.scheme.specs.Changes.{Edit, update, delete, append, load, batch, loaded, workOf, blocksAfter, askedCard, committedCard, changedCard, changeCode}
 use Rattle.scheme.specs.Changes.{changeCard, changeTable, loadCode, loadCard, loadTable, batchCode, batchCard, batchTable}
-use Rattle.scheme.specs.Book.{answer, change, Lent, Ran, run}
+use Rattle.scheme.specs.Runs.{change, Lent, Ran, answer, lentCode, run}
 use Rattle.scheme.proofs.TokenLaws.{worked-append}
 use Rattle.scheme.proofs.LadderLaws.{both}
 use Rattle.scheme.proofs.RecordLaws.{by-eight}
 use Rattle.scheme.proofs.TableLaws.{pieces-length}
 use Rattle.scheme.proofs.CallLaws.{change-has}
 use Rattle.scheme.proofs.BatchLaws.{batch-has}
+use Rattle.scheme.proofs.RoleLaws.{run-accepted}
 use Rattle.scheme.proofs.ResealLaws.{spent-kept, table-long, made, inside, was-inside, left, card-changed, card-written}
 
--- changes as calls, each lent the same master and a buffer for totals
-abbrev pub calls : List ℕ → List ℕ → List Edit → List Lent
-calls master totals [] = []
-calls master totals (e ∷ es) = record { master = master; call = change e totals } ∷ calls master totals es
+-- changes as calls of one role, each lent the same master and a buffer for totals
+abbrev pub calls : ℕ → List ℕ → List ℕ → List Edit → List Lent
+calls role master totals [] = []
+calls role master totals (e ∷ es) = record { role = role; master = master; call = change e totals } ∷ calls role master totals es
 
 -- every number is 0
 abbrev pub AllAccepted : List ℕ → Type 0
@@ -111,10 +112,10 @@ pub record Alike (P : Primitives) (master card table : List ℕ) (single : Ran) 
   pub oneStep : ((readCard one) .ctr ≡ (readCard card) .last + 1) × ((readCard one) .last ≡ (readCard card) .last + 1)
   pub manySteps : ((readCard (single .card)) .ctr ≡ (readCard card) .last + count) × ((readCard (single .card)) .last ≡ (readCard card) .last + count)
 
-module _ (P : Primitives) (master totals asked : List ℕ) where
+module _ (P : Primitives) (role : ℕ) (master totals asked : List ℕ) where
   -- what changes made singly leave
   abbrev ran : List Edit → List ℕ → List ℕ → Ran
-  ran es card table = run P (calls master totals es) card table asked
+  ran es card table = run P (calls role master totals es) card table asked
 
   -- the first of them
   module _ (e : Edit) (es : List Edit) (card table : List ℕ) where
@@ -124,12 +125,18 @@ module _ (P : Primitives) (master totals asked : List ℕ) where
     abbrev table′ : List ℕ
     table′ = changeTable P master card table e totals
 
-    first : ran (e ∷ es) card table ≡ answer (changeCode P master card table e totals) (ran es card′ table′)
+    abbrev lent : Lent
+    lent = record { role = role; master = master; call = change e totals }
+
+    zero-first : AllAccepted ((ran (e ∷ es) card table) .numbers) → lentCode P lent card table ≡ 0
     unfolding run
-    first = refl
+    zero-first a = a .0
+
+    first : AllAccepted ((ran (e ∷ es) card table) .numbers) → ran (e ∷ es) card table ≡ answer (changeCode P master card table e totals) (ran es card′ table′)
+    first a = run-accepted P lent (calls role master totals es) card table asked (zero-first a)
 
     accepted : AllAccepted ((ran (e ∷ es) card table) .numbers) → (changeCode P master card table e totals ≡ 0) × AllAccepted ((ran es card′ table′) .numbers)
-    accepted a = rw first at a
+    accepted a = rw (first a) at a
 
   -- the card after all of them
   last-card : (es : List Edit) (card table : List ℕ) → AllAccepted ((ran es card table) .numbers)
@@ -138,17 +145,17 @@ module _ (P : Primitives) (master totals asked : List ℕ) where
   last-card [] card table a = unfold run in refl
   last-card (e ∷ es) card table a =
       let ok = accepted e es card table a in
-      rw (first e es card table)
+      rw (first e es card table a)
       (last-card es (card′ e es card table) (table′ e es card table) (ok .1) ∙ ap (λ (c : Card). cardAfter c es) (card-changed P master card table e totals (ok .0)))
 
   -- its bytes, where there is one at least
   card-bytes : (e : Edit) (es : List Edit) (card table : List ℕ) → AllAccepted ((ran (e ∷ es) card table) .numbers)
       → (ran (e ∷ es) card table) .card ≡ cardBytes (cardAfter (readCard card) (e ∷ es))
   unfolding cardAfter
-  card-bytes e [] card table a = rw (first e [] card table) (unfold run in card-written P master card table e totals (accepted e [] card table a .0))
+  card-bytes e [] card table a = rw (first e [] card table a) (unfold run in card-written P master card table e totals (accepted e [] card table a .0))
   card-bytes e (f ∷ es) card table a =
       let ok = accepted e (f ∷ es) card table a in
-      rw (first e (f ∷ es) card table)
+      rw (first e (f ∷ es) card table a)
       (card-bytes f es (card′ e es card table) (table′ e es card table) (ok .1)
       ∙ ap (λ (c : Card). cardBytes (cardAfter c (f ∷ es))) (card-changed P master card table e totals (ok .0)))
 
@@ -163,7 +170,7 @@ module _ (P : Primitives) (master totals asked : List ℕ) where
       let z = card-changed P master card table e totals (ok .0) in
       let long : length (table′ e es card table) ≡ (readCard (card′ e es card table)) .t * 63 = rw z (table-long P master card table e totals (ok .0)) in
       let ih = rw z at (last-table es (card′ e es card table) (table′ e es card table) long (ok .1)) in
-      rw (first e es card table) (ih .0 ∙ spent-kept P master card table e totals (ok .0), ih .1)
+      rw (first e es card table a) (ih .0 ∙ spent-kept P master card table e totals (ok .0), ih .1)
 
   -- the token in the unused record i
   module _ (i : ℕ) where
@@ -180,7 +187,7 @@ module _ (P : Primitives) (master totals asked : List ℕ) where
         let l′ : i ≤ (readCard (card′ e es card table)) .t = rw z l in
         let o′ = left P master card table e totals (ok .0) i x h l o in
         let ih = last-token es (card′ e es card table) (table′ e es card table) (made P master c (workOf c e) i x) h′ l′ o′ (ok .1) in
-        rw (first e es card table)
+        rw (first e es card table a)
         (rw z at ih
         ∙ ap some
         (sym (worked-append P (drawKey P master (c .id) i) (hashKey P master (c .id) i) (c .d) (c .r) (workOf c e) (workSingly (changedCard c (blocksAfter c e)) es) x)))
@@ -261,7 +268,7 @@ append-many (x ∷ xs) = ap suc (append-many xs)
 abbrev pub blocksIn : Card → List ℕ → List (List ℕ)
 blocksIn c blocks = pieces (c .B) (length blocks / c .B) blocks
 
-module _ (P : Primitives) (master card table asked blocks totals : List ℕ) where
+module _ (P : Primitives) (role : ℕ) (master card table asked blocks totals : List ℕ) where
   abbrev news : List (List ℕ)
   news = blocksIn (readCard card) blocks
 
@@ -283,13 +290,13 @@ module _ (P : Primitives) (master card table asked blocks totals : List ℕ) whe
       go (suc k) e = omega arith
 
   -- "the table's tokens after it are those after the same blocks appended one by one; only counter and sealing differ", where all are accepted
-  pub load-singly : loadCode P master card table blocks totals ≡ 0 → AllAccepted ((run P (calls master totals (appends news)) card table asked) .numbers)
-      → Alike P master card table (run P (calls master totals (appends news)) card table asked) (loadCard P master card table blocks totals) (loadTable P master card table blocks totals) (length news)
+  pub load-singly : loadCode P master card table blocks totals ≡ 0 → AllAccepted ((run P (calls role master totals (appends news)) card table asked) .numbers)
+      → Alike P master card table (run P (calls role master totals (appends news)) card table asked) (loadCard P master card table blocks totals) (loadTable P master card table blocks totals) (length news)
   load-singly ok a =
       let c = readCard card in
       let n = append-many news in
       rw (← n)
-      (alike P master totals asked card table (load blocks) (appends news) (omega (arith, not-empty ok)) ok a (unfold loaded in append-work c news)
+      (alike P role master totals asked card table (load blocks) (appends news) (omega (arith, not-empty ok)) ok a (unfold loaded in append-work c news)
       (ap (λ (k : ℕ). c .n + k) (sym many) ∙ append-count c news))
 
 -- an item as a change of its own: "1 update, 2 delete"
@@ -335,14 +342,14 @@ corrected-many [] = refl
 corrected-many (x ∷ xs) = ap suc (corrected-many xs)
 
 -- "The tokens inside equal those after the same changes made singly, where all those are accepted; only the counter and sealing differ"
-pub batch-singly : (P : Primitives) (master card table asked items totals : List ℕ) → batchCode P master card table items totals ≡ 0
-    → AllAccepted ((run P (calls master totals (corrections (itemsOf (readCard card) items))) card table asked) .numbers)
-    → Alike P master card table (run P (calls master totals (corrections (itemsOf (readCard card) items))) card table asked)
+pub batch-singly : (P : Primitives) (role : ℕ) (master card table asked items totals : List ℕ) → batchCode P master card table items totals ≡ 0
+    → AllAccepted ((run P (calls role master totals (corrections (itemsOf (readCard card) items))) card table asked) .numbers)
+    → Alike P master card table (run P (calls role master totals (corrections (itemsOf (readCard card) items))) card table asked)
     (batchCard P master card table items totals) (batchTable P master card table items totals) (length (itemsOf (readCard card) items))
-batch-singly P master card table asked items totals ok a =
+batch-singly P role master card table asked items totals ok a =
     let c = readCard card in
     let xs = itemsOf c items in
     let n = corrected-many xs in
     let fit = batch-has c items (change-has P master card table (batch items) totals ok .placed 14) in
     rw (← n)
-    (alike P master totals asked card table (batch items) (corrections xs) (omega (arith, fit .some)) ok a (corrected-work c xs) (corrected-count c xs))
+    (alike P role master totals asked card table (batch items) (corrections xs) (omega (arith, fit .some)) ok a (corrected-work c xs) (corrected-count c xs))

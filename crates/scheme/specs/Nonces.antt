@@ -11,7 +11,7 @@ use Rattle.scheme.specs.Primitives.{Primitives}
 use Rattle.scheme.specs.Records.{Card, readCard, recordAt}
 use Rattle.scheme.specs.Changes.{changeCard, changeTable}
 use Rattle.scheme.specs.Asks.{askCard, askSecond}
-use Rattle.scheme.specs.Book.{Call, change, ask, commit, drop, draw, judge, Lent, callCode, callCard, callTable, callAsked}
+use Rattle.scheme.specs.Runs.{Call, change, ask, commit, drop, draw, judge, Lent, lentCode, lentCard, lentTable, lentAsked}
 
 -- above m, each above the one before
 abbrev pub Rising : ℕ → List ℕ → Type 0
@@ -57,20 +57,20 @@ module _ (P : Primitives) where
 
   -- where it is accepted
   unfoldable pub taken : Lent → List ℕ → List ℕ → List ℕ
-  taken x card table = ifZero (callCode P (x .master) (x .call) card table) (takes (x .master) (x .call) card table) []
+  taken x card table = ifZero (lentCode P x card table) (takes (x .master) (x .call) card table) []
 
   unfoldable pub sealed : Lent → List ℕ → List ℕ → List (ℕ × ℕ)
-  sealed x card table = ifZero (callCode P (x .master) (x .call) card table) (writes (x .master) (x .call) card table) []
+  sealed x card table = ifZero (lentCode P x card table) (writes (x .master) (x .call) card table) []
 
   -- of calls one after the other, each on the card and the tables that the one before left
   unfoldable pub counters : List Lent → List ℕ → List ℕ → List ℕ → List ℕ
   counters [] card table asked = []
   counters (x ∷ xs) card table asked =
       taken x card table
-      ++ counters xs (callCard P (x .master) (x .call) card table) (callTable P (x .master) (x .call) card table asked) (callAsked P (x .master) (x .call) card table asked)
+      ++ counters xs (lentCard P x card table) (lentTable P x card table asked) (lentAsked P x card table asked)
 
   unfoldable pub seals : List Lent → List ℕ → List ℕ → List ℕ → List (ℕ × ℕ)
   seals [] card table asked = []
   seals (x ∷ xs) card table asked =
       sealed x card table
-      ++ seals xs (callCard P (x .master) (x .call) card table) (callTable P (x .master) (x .call) card table asked) (callAsked P (x .master) (x .call) card table asked)
+      ++ seals xs (lentCard P x card table) (lentTable P x card table asked) (lentAsked P x card table asked)
