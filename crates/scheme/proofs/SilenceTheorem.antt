@@ -19,7 +19,7 @@ use Rattle.scheme.specs.Tokens.{keyK}
 use Rattle.scheme.specs.Table.{value, sealedRecord, tokenIn, resealedRecord}
 use Rattle.scheme.specs.Changes.{Edit, update, delete, batch, workOf, blocksAfter, askedCard, changedCard, changeCode, changeCard, changeTable}
 use Rattle.scheme.specs.Asks.{askCode, askCard, askSecond}
-use Rattle.scheme.specs.Roles.{Deed, editDeed, under}
+use Rattle.scheme.specs.Roles.{editDeed, under}
 use Rattle.scheme.proofs.RecordLaws.{length-clear}
 use Rattle.scheme.proofs.AskTheorem.{ask-exactly, one-step}
 use Rattle.scheme.proofs.ResealLaws.{made, inside, spent-kept, record-changed, now-inside, table-long, card-written}
