@@ -67,6 +67,7 @@ int main(int count, char **words)
     test_pending();
     test_totals();
     test_roles();
+    test_silence();
     test_causes();
     test_plans();
     test_sheets();

@@ -41,6 +41,9 @@ void test_totals(void);
 /* Who may do what: every call by every role, whatever else is lent. */
 void test_roles(void);
 
+/* What a host can read from a reseal: equal clear bytes whatever was changed, and sealed ones that look unrelated. */
+void test_silence(void);
+
 /* Why a reply is rejected: each cause alone and all sets of them, and no cause exactly where judge accepts. */
 void test_causes(void);
 
