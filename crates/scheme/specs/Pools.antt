@@ -6,7 +6,8 @@
 --   passes, allPass, poolSum           the part of a pooled reply that speaks of a card; the xor of the opened tokens
 --   PoolAccepted                       the rule by which a pooled reply is accepted
 --   poolVerdict, poolCode, poolCards   the verdict, the number and the cards
---   gatheredReply, gatherCode, gatherOut     the host's side: single replies made one pooled reply
+--   pooled, Told                       in lists: this card among the others in their places, and what is said of these
+--   gatheredReply, gatherCode, gatherOut   the host's side: single replies made one pooled reply
 use Prim.Native.Nat.{ℕ, zero, suc, _+_, _*_, _/_, _%_}
 use mathlib.Core.Path.{_≡_}
 use mathlib.Core.List.{List, [], _∷_, _++_}
@@ -15,7 +16,7 @@ use lib.ListN.{length, getD, take, drop, replicate}
 use lib.Dec.{eqb, leb, ltb}
 use Rattle.octets.specs.Octets.{be, ofBe, part, same, xors}
 use Rattle.scheme.specs.Ladder.{first, ifZero, within}
-use Rattle.scheme.specs.Lists.{pieces}
+use Rattle.scheme.specs.Lists.{joined, pieces}
 use Rattle.scheme.specs.Primitives.{Primitives}
 use Rattle.scheme.specs.Records.{Card, readCard, cardFits, cardHead, headFits, headKnown}
 use Rattle.scheme.specs.Table.{there, value}
@@ -131,6 +132,15 @@ module _ (P : Primitives) where
 
   unfoldable pub poolCards : List ℕ → List ℕ → List ℕ → List ℕ
   poolCards master cards reply = ifZero (poolFault master cards) (closedAll (cut cards)) cards
+
+-- "In lists, a pooled judgement is a step on each card, whose book is also fed the other cards in their places, as lent"
+abbrev pub pooled : List (List ℕ) → List ℕ → List (List ℕ) → List ℕ
+pooled before card behind = joined before ++ (card ++ joined behind)
+
+-- "each as long as its length field tells, whatever else they hold"
+abbrev pub Told : List (List ℕ) → Type 0
+Told [] = Unit {0}
+Told (x ∷ xs) = (length x ≡ 2 + ofBe (part 0 2 x)) × Told xs
 
 -- The host's side, of which the paper names no call: what a pooled reply takes over from a single one, id, i and record; and the xor of the digests, onto x
 unfoldable pub entries : List (List ℕ) → List ℕ
