@@ -2,7 +2,8 @@
 --   taken, counters             the counter that a call takes; those that a list takes, in order
 --   noncesFrom, sealed, seals   counter and token number of records; of those that a call seals; of those that a list seals
 --   Rising, Once                numbers that rise; pairs of which none occurs twice
---   OwnLength, OthersTold       a card is as long as its length field tells; so are the other cards of every pooled judgement in a list
+--   OwnLength                   a card is as long as its length field tells
+--   OthersTold, Placed          so are the other cards of every pooled judgement in a list; so are all its cards, this one too
 use Prim.Native.Nat.{ℕ, zero, suc, _+_, _-_, _<_}
 use mathlib.Core.Path.{_≡_}
 use mathlib.Core.List.{List, [], _∷_, _++_}
@@ -57,6 +58,15 @@ abbrev pub OthersTold : List Lent → Type 0
 OthersTold [] = Unit {0}
 OthersTold (x ∷ xs) = OthersIn (x .call) × OthersTold xs
 
+abbrev pub PlacedIn : Call → List ℕ → Type 0
+PlacedIn (change e totals) card = Unit {0}
+PlacedIn (ask e second totals) card = Unit {0}
+PlacedIn commit card = Unit {0}
+PlacedIn drop card = Unit {0}
+PlacedIn (draw message plan now) card = Unit {0}
+PlacedIn (judge reply) card = Unit {0}
+PlacedIn (pool before behind reply) card = Told before × OwnLength card × Told behind
+
 module _ (P : Primitives) where
   -- a change, in one step or asked, takes a counter: the last issued on the card that it leaves; no other call of a list does
   abbrev pub takes : List ℕ → Call → List ℕ → List ℕ → List ℕ
@@ -97,3 +107,9 @@ module _ (P : Primitives) where
   seals (x ∷ xs) card table asked =
       sealed x card table
       ++ seals xs (lentCard P x card table) (lentTable P x card table asked) (lentAsked P x card table asked)
+
+  -- of calls one after the other: a list without pooled judgements is placed on any card
+  abbrev pub Placed : List Lent → List ℕ → List ℕ → List ℕ → Type 0
+  Placed [] card table asked = Unit {0}
+  Placed (x ∷ xs) card table asked =
+      PlacedIn (x .call) card × Placed xs (lentCard P x card table) (lentTable P x card table asked) (lentAsked P x card table asked)
