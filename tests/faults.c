@@ -5,11 +5,13 @@
 #include "files.h"
 #include "groups.h"
 #include "hours.h"
+#include "pooled.h"
 
 /* Three files of one version on which only a fault turns a call away, as far as the version goes. On `changing`, for changes, asks and
  * draws, token 1 is spent; on `judging`, for judgings, causes and proofs, token 2 is drawn; on `settling`, for commits and drops, a load is
- * pending in version 3. */
-static struct file changing, judging, settling;
+ * pending in version 3. And for pools files of all versions, this one first. */
+static struct file changing, judging, settling, pool[POOL_FILES];
+static const struct file *const pooled[POOL_FILES] = {&pool[0], &pool[1], &pool[2]};
 static uint64_t version;
 
 static struct file prepared(void)
@@ -65,6 +67,10 @@ static struct call faultless(enum kind kind)
         return open_wait();
     if (kind == SHEET)
         return call_sheet(B, D, R, T, N, D);
+    if (kind == JUDGE_POOL)
+        return pool_call(pooled, POOL_FILES);
+    if (kind == POOL)
+        return pooling_call(pooled, POOL_FILES);
     if (kind == LOAD)
         return file_load_call(&changing, LOADED);
     if (kind == BATCH)
@@ -134,6 +140,8 @@ static void version_faults(void)
     file_do(&judging, DRAW);
     if (version == LEGBARO_TWO_STEPS)
         file_do(&settling, ASK_LOAD);
+    for (size_t e = 0; e < POOL_FILES; e++)
+        pool[e] = pool_file(&judging.master, fault_pool_version(version, e));
     group_end();
     for (int kind = 0; kind < KINDS; kind++) {
         every_fault(kind);
@@ -142,6 +150,8 @@ static void version_faults(void)
     file_end(&changing);
     file_end(&judging);
     file_end(&settling);
+    for (size_t e = 0; e < POOL_FILES; e++)
+        file_end(&pool[e]);
 }
 
 void test_faults(void)
