@@ -9,9 +9,9 @@
 
 /* Three files of one version on which only a fault turns a call away, as far as the version goes. On `changing`, for changes, asks and
  * draws, token 1 is spent; on `judging`, for judgings, causes and proofs, token 2 is drawn; on `settling`, for commits and drops, a load is
- * pending in version 3. And for pools files of all versions, this one first. */
-static struct file changing, judging, settling, pool[POOL_FILES];
-static const struct file *const pooled[POOL_FILES] = {&pool[0], &pool[1], &pool[2]};
+ * pending in version 3. And a pooled judging and a pooling that would be accepted, of files of all versions, this one first. */
+static struct file changing, judging, settling;
+static struct call judging_pool, pooling;
 static uint64_t version;
 
 static struct file prepared(void)
@@ -68,9 +68,9 @@ static struct call faultless(enum kind kind)
     if (kind == SHEET)
         return call_sheet(B, D, R, T, N, D);
     if (kind == JUDGE_POOL)
-        return pool_call(pooled, POOL_FILES);
+        return call_copy(&judging_pool);
     if (kind == POOL)
-        return pooling_call(pooled, POOL_FILES);
+        return call_copy(&pooling);
     if (kind == LOAD)
         return file_load_call(&changing, LOADED);
     if (kind == BATCH)
@@ -131,6 +131,20 @@ static void every_two_faults(enum kind kind)
     group_end();
 }
 
+static void make_pool(void)
+{
+    struct file files[POOL_FILES];
+    const struct file *pool[POOL_FILES];
+    for (size_t e = 0; e < POOL_FILES; e++) {
+        files[e] = pool_file(&judging.master, fault_pool_version(version, e));
+        pool[e] = &files[e];
+    }
+    judging_pool = pool_call(pool, POOL_FILES);
+    pooling = pooling_call(pool, POOL_FILES);
+    for (size_t e = 0; e < POOL_FILES; e++)
+        file_end(&files[e]);
+}
+
 static void version_faults(void)
 {
     group_begin("files of version %llu for the faults", (unsigned long long)version);
@@ -140,8 +154,7 @@ static void version_faults(void)
     file_do(&judging, DRAW);
     if (version == LEGBARO_TWO_STEPS)
         file_do(&settling, ASK_LOAD);
-    for (size_t e = 0; e < POOL_FILES; e++)
-        pool[e] = pool_file(&judging.master, fault_pool_version(version, e));
+    make_pool();
     group_end();
     for (int kind = 0; kind < KINDS; kind++) {
         every_fault(kind);
@@ -150,8 +163,8 @@ static void version_faults(void)
     file_end(&changing);
     file_end(&judging);
     file_end(&settling);
-    for (size_t e = 0; e < POOL_FILES; e++)
-        file_end(&pool[e]);
+    call_free(&judging_pool);
+    call_free(&pooling);
 }
 
 void test_faults(void)

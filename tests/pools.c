@@ -15,18 +15,23 @@ enum { POOLED_XOR = 5, ENTRIES = 37, ENTRY = 75, ENTRY_RECORD = 12, REPLY_ID = 3
 /* A pool of THREE has a card of each version. Under a memory checker one length in so many is tried. */
 enum { THREE = 3, LENGTHS = 7, LISTS = 200, LONGEST = 20 };
 
-/* Files of one master, each with a token drawn, the versions in turn; pools are the first so many of them. */
+/* Files of one master, each with a token drawn, the versions in turn; and of the first so many of them the pooled judging and the pooling. */
 static struct file files[POOL_ROOM];
-static const struct file *lent[POOL_ROOM];
+static struct call judgings[POOL_ROOM + 1], poolings[POOL_ROOM + 1];
 
 static void begin(void)
 {
+    const struct file *held[POOL_ROOM];
     struct buffer master = buffer_blank(LEGBARO_MASTER_BYTES);
     chance_bytes(master.bytes, master.length);
     group_begin("files of all versions for the pools");
     for (size_t e = 0; e < POOL_ROOM; e++) {
         files[e] = pool_file(&master, FIRST_VERSION + e % LAST_VERSION);
-        lent[e] = &files[e];
+        held[e] = &files[e];
+    }
+    for (size_t count = 0; count <= POOL_ROOM; count++) {
+        judgings[count] = pool_call(held, count);
+        poolings[count] = pooling_call(held, count);
     }
     group_end();
     buffer_free(&master);
@@ -36,6 +41,20 @@ static void end(void)
 {
     for (size_t e = 0; e < POOL_ROOM; e++)
         file_end(&files[e]);
+    for (size_t count = 0; count <= POOL_ROOM; count++) {
+        call_free(&judgings[count]);
+        call_free(&poolings[count]);
+    }
+}
+
+static struct call judging(size_t count)
+{
+    return call_copy(&judgings[count]);
+}
+
+static struct call pooling_of(size_t count)
+{
+    return call_copy(&poolings[count]);
 }
 
 /* Where card e of these lies. */
@@ -72,9 +91,9 @@ static void judged(struct call *call, uint64_t number, const char *what)
 }
 
 /* The judging of the first so many files with the reply that a pooling makes, which is expected to be accepted. Frees the pooling. */
-static struct call judging_of(struct call *pooling, size_t count)
+static struct call judging_with(struct call *pooling, size_t count)
 {
-    struct call call = pool_call(lent, count);
+    struct call call = judging(count);
     call_expect(pooling, LEGBARO_OK, "accepted");
     buffer_free(&call.lent[REPLY]);
     call.lent[REPLY] = buffer_copy(&pooling->lent[POOLED]);
@@ -90,7 +109,7 @@ static void every_number(void)
     group_begin("pools of no file to %d, of all versions", POOL_ROOM);
     for (size_t count = 0; count <= POOL_ROOM; count++) {
         uint64_t number = count >= 2 && count <= 16 ? LEGBARO_OK : LEGBARO_BAD_POOL;
-        struct call pooling = pooling_call(lent, count), call = pool_call(lent, count);
+        struct call pooling = pooling_of(count), call = judging(count);
         call_finish(&pooling, number, "so many replies");
         judged(&call, number, "so many cards");
     }
@@ -106,12 +125,12 @@ static void length_fields(void)
     for (size_t count = 2; count <= THREE; count++) {
         for (size_t e = 0; e < count; e++)
             for (size_t i = 0; i < COUNT(none); i++) {
-                struct call call = pool_call(lent, count);
+                struct call call = judging(count);
                 buffer_put_number(&call.lent[CARDS], card_at(e), 2, none[i]);
                 judged(&call, LEGBARO_WRONG_HEADER, "a length field that is no card's");
             }
         int longer = files[count - 1].card.length == LEGBARO_CARD_BYTES;
-        struct call call = pool_call(lent, count);
+        struct call call = judging(count);
         buffer_put_number(&call.lent[CARDS], card_at(count - 1), 2, longer ? 61 : 41);
         judged(&call, longer ? LEGBARO_WRONG_LENGTH : LEGBARO_WRONG_HEADER, "the other length in the last card");
     }
@@ -130,29 +149,33 @@ static uint64_t cut_number(size_t length)
 
 static void every_length(void)
 {
-    group_begin("cards, pooled replies and replies to pool of every length");
+    group_begin("cards and pooled replies of every length");
     for (size_t length = 0; length <= card_at(THREE) + LEGBARO_CARD_BYTES; length = tried_behind(length, LENGTHS)) {
-        struct call call = pool_call(lent, THREE);
+        struct call call = judging(THREE);
         buffer_resize(&call.lent[CARDS], length);
         judged(&call, cut_number(length), "cards of any length");
     }
     for (size_t length = 0; length <= 2 * LEGBARO_POOLED_BYTES(THREE); length = tried_behind(length, LENGTHS)) {
-        struct call call = pool_call(lent, THREE), pooling = pooling_call(lent, THREE);
+        struct call call = judging(THREE), pooling = pooling_of(THREE);
         int fits = length == LEGBARO_POOLED_BYTES(THREE);
         buffer_resize(&call.lent[REPLY], length);
         judged(&call, fits ? LEGBARO_OK : LEGBARO_REJECTED, "a pooled reply of any length");
         buffer_resize(&pooling.lent[POOLED], length);
         call_finish(&pooling, fits ? LEGBARO_OK : LEGBARO_WRONG_LENGTH, "room of any length for it");
     }
-    for (size_t length = 0; length <= THREE * LEGBARO_REPLY_BYTES; length++) {
-        struct call pooling = pooling_call(lent, THREE);
-        size_t replies = length / LEGBARO_REPLY_BYTES;
+    group_end();
+}
+
+/* The first so many bytes of three replies, with room for a pooled reply of three. */
+static void every_length_of_replies(void)
+{
+    static const uint64_t whole[] = {LEGBARO_BAD_POOL, LEGBARO_BAD_POOL, LEGBARO_WRONG_LENGTH, LEGBARO_OK};
+    group_begin("replies to pool of every length");
+    for (size_t length = 0; length <= THREE * LEGBARO_REPLY_BYTES; length = tried_behind(length, LENGTHS)) {
+        struct call pooling = pooling_of(THREE);
         buffer_resize(&pooling.lent[REPLIES], length);
-        call_finish(&pooling,
-                    length % LEGBARO_REPLY_BYTES || replies == 2 ? LEGBARO_WRONG_LENGTH
-                    : replies < 2                                ? LEGBARO_BAD_POOL
-                                                                 : LEGBARO_OK,
-                    "replies of any length");
+        uint64_t number = length % LEGBARO_REPLY_BYTES ? LEGBARO_WRONG_LENGTH : whole[length / LEGBARO_REPLY_BYTES];
+        call_finish(&pooling, number, "replies of any length");
     }
     group_end();
 }
@@ -167,7 +190,7 @@ static void ids(void)
     for (size_t i = 0; i < COUNT(counts); i++)
         for (size_t b = 0; b < counts[i]; b++)
             for (size_t a = 0; a < b; a++) {
-                struct call call = pool_call(lent, counts[i]);
+                struct call call = judging(counts[i]);
                 memcpy(call.lent[CARDS].bytes + card_at(b) + LEGBARO_CARD_ID, files[a].book.numbers.id, LEGBARO_ID_BYTES);
                 judged(&call, LEGBARO_BAD_POOL, "an id twice");
             }
@@ -180,7 +203,7 @@ static void not_drawn(void)
     group_begin("a card with no token drawn, at every place of a pool");
     for (size_t count = 2; count <= LEGBARO_MOST_POOLED; count++)
         for (size_t e = 0; e < count; e++) {
-            struct call call = pool_call(lent, count);
+            struct call call = judging(count);
             buffer_put_number(&call.lent[CARDS], card_at(e) + LEGBARO_CARD_OPEN, 4, 0);
             judged(&call, LEGBARO_NONE_OPEN, "one card not drawn");
         }
@@ -218,7 +241,7 @@ static void versions(void)
     group_begin("records of another version than their card's, sound but for that");
     for (size_t e = 0; e < THREE; e++)
         for (uint64_t version = FIRST_VERSION; version <= LAST_VERSION; version++) {
-            struct call call = pool_call(lent, THREE);
+            struct call call = judging(THREE);
             reseal(&call.lent[REPLY], e, version);
             judged(&call, version == files[e].book.numbers.version ? LEGBARO_OK : LEGBARO_REJECTED, "a record of a version");
         }
@@ -243,11 +266,11 @@ static void as_single(void)
     group_begin("pools of replies of which one is altered, beside single judging");
     for (size_t e = 0; e < THREE; e++)
         for (size_t at = REPLY_ID; at <= LEGBARO_REPLY_BYTES; at = tried_behind(at, LENGTHS)) {
-            struct call pooling = pooling_call(lent, THREE);
+            struct call pooling = pooling_of(THREE);
             if (at < LEGBARO_REPLY_BYTES)
                 pooling.lent[REPLIES].bytes[e * LEGBARO_REPLY_BYTES + at] ^= (uint8_t)(1 + chance_below(UINT8_MAX));
             int sound = cause_of(&pooling, e) == 0;
-            struct call call = judging_of(&pooling, THREE);
+            struct call call = judging_with(&pooling, THREE);
             expect(sound == (at == LEGBARO_REPLY_BYTES), "the altered reply rejected");
             judged(&call, sound ? LEGBARO_OK : LEGBARO_REJECTED, "as the single reply");
         }
@@ -273,11 +296,11 @@ static void cancelling(void)
     group_begin("wrong digests whose differences cancel, or all but one bit of them");
     for (size_t count = 2; count <= LEGBARO_MOST_POOLED; count++)
         for (int cancel = 0; cancel <= 1; cancel++) {
-            struct call pooling = pooling_call(lent, count);
+            struct call pooling = pooling_of(count);
             alter_digests(&pooling.lent[REPLIES], count, cancel);
             for (size_t e = 0; e < count; e++)
                 expect(cause_of(&pooling, e) == LEGBARO_CAUSE_DIGEST, "every single digest wrong");
-            struct call call = judging_of(&pooling, count);
+            struct call call = judging_with(&pooling, count);
             judged(&call, cancel ? LEGBARO_OK : LEGBARO_REJECTED, "wrong digests");
         }
     group_end();
@@ -292,7 +315,7 @@ static void orders(void)
         const struct file *turned[THREE];
         for (size_t e = 0; e < THREE; e++)
             turned[e] = &files[others[i][e]];
-        struct call same = pool_call(turned, THREE), call = pool_call(lent, THREE);
+        struct call same = pool_call(turned, THREE), call = judging(THREE);
         memcpy(call.lent[REPLY].bytes, same.lent[REPLY].bytes, same.lent[REPLY].length);
         judged(&same, LEGBARO_OK, "both in one order");
         judged(&call, LEGBARO_REJECTED, "each in an order of its own");
@@ -361,6 +384,7 @@ void test_pools(void)
     every_number();
     length_fields();
     every_length();
+    every_length_of_replies();
     ids();
     not_drawn();
     versions();
