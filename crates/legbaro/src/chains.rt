@@ -7,7 +7,12 @@ ghost use Rattle.standard.specs.Standard.{standard};
 // Judge a pooled reply: the verdict, 0 or 11, on the cards of two to sixteen drawn files, which lie end to end in the order of the reply. Either verdict
 // closes every draw. Codes 22, 2 and 1 for the cut of the cards, 1, 2, 3, 23, 9.
 #[no_mangle]
-pub extern "C" fn legbaro_judge_pool(role: u64, master: &[u8], cards: &mut [u8], reply: &[u8]) -> u64
+pub extern "C" fn legbaro_judge_pool(
+    role: u64,
+    master: &[u8],
+    cards: &mut [u8],
+    reply: &[u8],
+) -> u64
     ensures { λ r. ⌜ r ≡ under role toPool (poolCode standard (now (master .entry)) (now (cards .entry)) (now (reply .entry))) 22 ⌝ }
     ensures { λ _. ⌜ now (cards .exit) ≡ under role toPool (poolCards standard (now (master .entry)) (now (cards .entry)) (now (reply .entry))) (now (cards .entry)) ⌝ }
 {

@@ -1,5 +1,6 @@
 -- Laws of pooled judging. Assumes nothing.
 --   cut-told                cards as long as their length fields tell are cut as they lie
+--   heads-told, heads-fault cards whose heads are right are, and can be cut
 --   card-told               a card that was written is as long as its length field tells
 --   fine-pool               no code of a pooled judgement is 7
 --   Pooled, pool-has        what a pooled judgement that is made has
@@ -13,7 +14,7 @@ use mathlib.Core.Path.{_≡_, refl, sym, ap, _∙_}
 use mathlib.Core.Logic.{_↔_}
 use mathlib.Core.List.{List, [], _∷_, _++_, append-assoc}
 use mathlib.Core.Bool.{Bool, true, false, cond, _&&_, _||_}
-use borrow.Author.Tests.{eqb-true, eq-eqb, ne-eqb, ltb-true}
+use borrow.Author.Tests.{eqb-true, eq-eqb, ne-eqb, ltb-true, le-leb}
 use lib.ListN.{length, getD, take, drop, replicate, length-append}
 use lib.Seq.{take-at, drop-at, take-append-le}
 use lib.Dec.{eqb, leb}
@@ -22,7 +23,8 @@ use Rattle.octets.proofs.SameLaws.{same-refl, same-true}
 use Rattle.scheme.specs.Ladder.{first, ifZero}
 use Rattle.scheme.specs.Lists.{joined}
 use Rattle.scheme.specs.Primitives.{Primitives}
-use Rattle.scheme.specs.Records.{Card, cardBytes, readCard, cardHead}
+use Rattle.scheme.specs.Marks.{versionFits}
+use Rattle.scheme.specs.Records.{Card, cardBytes, readCard, headKnown, cardLength, cardHead}
 use Rattle.scheme.specs.Calls.{turnedCard, closed}
 use Rattle.scheme.specs.Pools.{cutCode, cutCards, cutFault, cut, readAll, closedAll, every, inLimits, isOpen, poolChecks, poolFault, allPass, poolSum}
 use Rattle.scheme.specs.Pools.{poolFits, PoolAccepted, poolVerdict, pooled, Told}
@@ -57,6 +59,53 @@ few (x ∷ xs) t = omega (arith, length-append x (joined xs), t .0, few xs (t .1
 pub cut-told : (xs : List (List ℕ)) → Told xs → cut (joined xs) ≡ xs
 unfolding cut
 cut-told xs t = cards-told (length (joined xs)) xs t (few xs t)
+
+-- cards whose heads are right are as long as their length fields tell, and can be cut
+head-field : (x : List ℕ) → cardHead x ≡ true → ofBe (part 0 2 x) ≡ cardLength (getD x 2 0)
+unfolding cardHead headKnown
+head-field x h =
+    let v = getD x 2 0 in
+    let p = both (eqb (ofBe (part 0 2 x)) (cardLength v) && versionFits v) (eqb (length x) (2 + cardLength v)) h in
+    eqb-true (ofBe (part 0 2 x)) (cardLength v) (both (eqb (ofBe (part 0 2 x)) (cardLength v)) (versionFits v) (p .0) .0)
+
+pub heads-told : (xs : List (List ℕ)) → every cardHead xs ≡ true → Told xs
+unfolding every
+heads-told [] h = tt
+heads-told (x ∷ xs) h =
+    let p = both (cardHead x) (every cardHead xs) h in
+    (head-sized x (p .0) .1 ∙ ap (λ (l : ℕ). 2 + l) (sym (head-field x (p .0))), heads-told xs (p .1))
+
+known-length : (v : ℕ) → (eqb (cardLength v) 41 || eqb (cardLength v) 61) ≡ true
+unfolding cardLength
+known-length v = go (eqb v 3)
+  where
+    go : (b : Bool) → (eqb (cond b 61 41) 41 || eqb (cond b 61 41) 61) ≡ true
+    go true = refl
+    go false = refl
+
+heads-cut : (k : ℕ) (xs : List (List ℕ)) → every cardHead xs ≡ true → cutCode k (joined xs) ≡ 0
+unfolding cutCode joined every first
+heads-cut zero xs h = refl
+heads-cut (suc k) [] h = refl
+heads-cut (suc k) (x ∷ xs) h =
+    let p = both (cardHead x) (every cardHead xs) h in
+    let e = head-field x (p .0) in
+    let l : length x ≡ 2 + ofBe (part 0 2 x) = heads-told (x ∷ xs) h .0 in
+    let n = length-append x (joined xs) in
+    rw (
+      some-bytes x (joined xs) l,
+      front-field x (joined xs) l,
+      le-leb 2 (length (x ++ joined xs)) (omega (arith, n, l)),
+      e,
+      known-length (getD x 2 0),
+      le-leb (2 + cardLength (getD x 2 0)) (length (x ++ joined xs)) (omega (arith, n, l, e)),
+      drop-at x (joined xs) (2 + cardLength (getD x 2 0)) (l ∙ ap (λ (m : ℕ). 2 + m) e),
+    )
+    (heads-cut k xs (p .1))
+
+pub heads-fault : (xs : List (List ℕ)) → every cardHead xs ≡ true → cutFault (joined xs) ≡ 0
+unfolding cutFault
+heads-fault xs h = heads-cut (length (joined xs)) xs h
 
 pub card-told : (c : Card) → length (c .id) ≡ 8 → length (cardBytes c) ≡ 2 + ofBe (part 0 2 (cardBytes c))
 card-told c h = card-long c h ∙ ap (λ (l : ℕ). 2 + l) (sym (head-length c))
