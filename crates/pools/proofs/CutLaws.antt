@@ -1,9 +1,11 @@
--- Cards that lie end to end, cut by their length fields. Assumes nothing.
---   long                        the bytes of the first card: two for its length field, and as many as that says
---   cut-none, cut-more          no cards, and one more
---   code-short .. code-end      the code of cards from their tests
---   Here, here                  what the card at an offset has, where the cards from there on have code 0
---   every-failed .. every-done  a test of every card, of those from an offset on; every-here: where it holds, of the first
+-- Cards that lie end to end, cut by their length fields, in loops from the front: what is left. Assumes nothing.
+--   fault-short .. fault-next, fault-end        the code of what is left from an offset on, from its tests
+--   card, Here, here                            the card at an offset, and what it has where the cards from there on have code 0
+--   lent-long, two-more                         the bytes that are lent of it, and those of its length field
+--   cut-end, count-next, count-done             no cards, and how many there are
+--   every-failed .. every-all, every-done       a test of every card, of those from an offset on
+--   read-none, read-more                        the numbers of the cards from an offset on
+--   absent-found .. absent-done, distinct-failed .. distinct-done    of their ids
 use Prim.Native.Nat.{ℕ, zero, suc, _+_, _-_, _≤_, _<_}
 use native.Mathlib.Omega.{arith}
 use mathlib.Core.Path.{_≡_, refl, sym, ap, ap₂, _∙_}

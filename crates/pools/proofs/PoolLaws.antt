@@ -1,10 +1,10 @@
 -- Laws of pooled judging at the standard primitives: codes from tests, the parts of a reply, and what a verdict leaves. Assumes nothing.
---   drawn-limits .. drawn-none, refused .. drawn       the code of a pool that is turned away, from its tests
---   Pooled, pooled                                     what one that is not has
---   clear-is, part-failed, part-opened, part-token     the part of a reply that speaks of a card
+--   drawn-limits .. drawn-none                         the code of cards whose heads fit, from its tests
+--   refused, other-master, other-head, drawn           the code of a pool; Pooled, pooled: what one that is not turned away has
+--   clear-is, part-failed, part-opened, part-token     the part of a reply that speaks of a card; entry-long: its length where it is lent
 --   rest, rest-failed, rest-next, rest-done            the parts that are left, and the xor of the tokens so far
---   fits-size .. fits-rest                             whether a reply is accepted, from its tests
---   Closed, closed-next, closed-done                   cards whose draws are closed one after the other
+--   fits-of                                            whether a reply is accepted, from its tests
+--   closed-is, closed-length .. closed-next, closed-done     cards whose draws are closed one after the other
 --   judge-kept, judge-done                             what a pooled judging answers and leaves
 use Prim.Native.Nat.{ℕ, zero, suc, _+_, _*_, _-_, _≤_, _<_}
 use native.Mathlib.Omega.{arith}
