@@ -25,5 +25,5 @@ pub extern "C" fn legbaro_pool(replies: &[u8], pooled: &mut [u8]) -> u64
     ensures { λ r. ⌜ r ≡ gatherCode (now (replies .entry)) (now (pooled .entry)) ⌝ }
     ensures { λ _. ⌜ now (pooled .exit) ≡ gatherOut (now (replies .entry)) (now (pooled .entry)) ⌝ }
 {
-    pools::gather(replies, pooled)
+    gathers::gather(replies, pooled)
 }
