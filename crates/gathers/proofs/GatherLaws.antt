@@ -6,7 +6,7 @@
 --   head-long, front-put, front-kept        the first 37 bytes as they are stored
 --   second-room .. entry-next, entry-done   the parts that are written one after the other
 --   gather-kept, gather-done                what a gathering answers and leaves
-use Prim.Native.Nat.{ℕ, zero, suc, _+_, _*_, _-_, _/_, _%_, _≤_, _<_}
+use Prim.Native.Nat.{ℕ, zero, suc, _+_, _*_, _-_, _/_, _%_, _≤_}
 use native.Mathlib.Omega.{arith}
 use mathlib.Core.Path.{_≡_, refl, sym, ap, ap₂, _∙_}
 use mathlib.Core.List.{List, [], _∷_, _++_, append-nil, append-assoc}
@@ -19,7 +19,7 @@ use Rattle.octets.specs.Octets.{be, part, put, xors}
 use Rattle.octets.proofs.NumberLaws.{length-be}
 use Rattle.octets.proofs.PartLaws.{length-part, part-part, put-put, length-put, take-put}
 use Rattle.octets.proofs.XorLaws.{length-xors}
-use Rattle.scheme.specs.Ladder.{first, ifZero, within}
+use Rattle.scheme.specs.Ladder.{first, within}
 use Rattle.scheme.specs.Lists.{pieces}
 use Rattle.scheme.specs.Records.{headKnown}
 use Rattle.scheme.specs.Pools.{every, entries, digestSum, gatheredReply, singles, gatherCode, gatherOut}

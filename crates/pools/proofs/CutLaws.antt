@@ -9,7 +9,6 @@
 use Prim.Native.Nat.{ℕ, zero, suc, _+_, _-_, _≤_, _<_}
 use native.Mathlib.Omega.{arith}
 use mathlib.Core.Path.{_≡_, refl, sym, ap, ap₂, _∙_}
-use mathlib.Core.Logic.{_⊎_, inl, inr}
 use mathlib.Core.List.{List, [], _∷_}
 use mathlib.Core.Bool.{Bool, true, false, cond, _&&_, _||_, and-assoc}
 use borrow.Author.Tests.{eq-eqb, ne-eqb, eqb-true, eqb-false, le-leb, lt-leb, leb-true}
@@ -23,10 +22,11 @@ use Rattle.scheme.specs.Records.{readCard}
 use Rattle.scheme.specs.Pools.{cutCode, cutCards, cutFault, cut, readAll, every, absent, distinct}
 use Rattle.scheme.proofs.LadderLaws.{both}
 
-abbrev pub field : List ℕ → ℕ
+-- the length field of the first card, and the bytes of the card
+abbrev field : List ℕ → ℕ
 field xs = ofBe (part 0 2 xs)
 
-abbrev pub long : List ℕ → ℕ
+abbrev long : List ℕ → ℕ
 long xs = 2 + field xs
 
 abbrev checks : List ℕ → List (Bool × ℕ)
@@ -205,7 +205,7 @@ module _ (f : List ℕ → Bool) (cards : List ℕ) where
   every-done at h = ap (every f) (cut-end cards at h)
 
   module _ (at n : ℕ) (h : Here cards at n) where
-    pub every-step : every f (cut (drop at cards)) ≡ (f (card cards at n) && every f (cut (drop (at + n) cards)))
+    every-step : every f (cut (drop at cards)) ≡ (f (card cards at n) && every f (cut (drop (at + n) cards)))
     unfolding every
     every-step = ap (every f) (h .split)
 
@@ -251,7 +251,7 @@ module _ (cards : List ℕ) (at : ℕ) where
     unfolding readAll
     read-more = ap readAll (h .split)
 
-    -- the id lies eleven bytes in front of the rest of a card
+    -- the id lies three bytes behind where a card begins
     id-is : (k : ℕ) → k ≡ 8 → (readCard (card cards at n)) .id ≡ part (at + 3) k cards
     unfolding readCard
     id-is k e = part-part 3 8 at (at + n - at) cards (omega (arith, h .least)) ∙ ap (λ (j : ℕ). part (at + 3) j cards) (sym e)

@@ -6,7 +6,7 @@
 --   fits-of                                            whether a reply is accepted, from its tests
 --   closed-is, closed-length .. closed-next, closed-done     cards whose draws are closed one after the other
 --   judge-kept, judge-done                             what a pooled judging answers and leaves
-use Prim.Native.Nat.{ℕ, zero, suc, _+_, _*_, _-_, _≤_, _<_}
+use Prim.Native.Nat.{ℕ, zero, suc, _+_, _*_, _-_, _≤_}
 use native.Mathlib.Omega.{arith}
 use mathlib.Core.Path.{_≡_, refl, sym, ap, ap₂, _∙_}
 use mathlib.Core.List.{List, [], _∷_, _++_, append-nil, append-assoc}
