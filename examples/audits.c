@@ -1,7 +1,9 @@
 /* See parties.h: audits. */
 #include "parties.h"
 
+#include <stdio.h>
 #include <stdlib.h>
+#include <string.h>
 
 /* ---- The host ---- */
 
@@ -71,6 +73,60 @@ uint64_t owner_judges(uint64_t role)
     store_card(card);
     free(master.at);
     free(card.at);
+    free(reply.at);
+    return result;
+}
+
+/* ---- Several files at once ---- */
+
+/* The bytes of a file in each of some folders, end to end. */
+static struct bytes gathered(const char *const *folders, size_t count, const char *name)
+{
+    struct bytes all = room(0);
+    char path[64];
+    for (size_t e = 0; e < count; e++) {
+        snprintf(path, sizeof path, "%s/%s", folders[e], name);
+        struct bytes one = read_file(path), more = room(all.length + one.length);
+        memcpy(more.at, all.at, all.length);
+        memcpy(more.at + all.length, one.at, one.length);
+        free(all.at);
+        free(one.at);
+        all = more;
+    }
+    return all;
+}
+
+uint64_t host_pools(const char *const *folders, size_t count)
+{
+    struct bytes replies = gathered(folders, count, "host/reply"), pooled = room(LEGBARO_POOLED_BYTES(count));
+    uint64_t result = legbaro_pool(LENT(replies), LENT(pooled));
+    write_file("pooled", LENT(pooled));
+    free(replies.at);
+    free(pooled.at);
+    return result;
+}
+
+/* Stores cards that lie end to end, each in its folder; their sizes stay. */
+static void store_cards(const char *const *folders, size_t count, const uint8_t *cards)
+{
+    char path[64];
+    for (size_t e = 0; e < count; e++) {
+        snprintf(path, sizeof path, "%s/owner/card", folders[e]);
+        size_t size = size_of(path);
+        snprintf(path, sizeof path, "%s/owner", folders[e]);
+        store_file(path, "card", cards, size);
+        cards += size;
+    }
+}
+
+uint64_t owner_judges_pool(uint64_t role, const char *const *folders, size_t count)
+{
+    struct bytes master = gathered(folders, 1, "owner/master"), cards = gathered(folders, count, "owner/card");
+    struct bytes reply = read_file("pooled");
+    uint64_t result = legbaro_judge_pool(role, LENT(master), LENT(cards), LENT(reply));
+    store_cards(folders, count, cards.at);
+    free(master.at);
+    free(cards.at);
     free(reply.at);
     return result;
 }

@@ -132,6 +132,18 @@ void make_folders(const char *name)
         stop("make", name);
 }
 
+void leave_folders(void)
+{
+    if (chdir("..") != 0)
+        stop("go to", "..");
+}
+
+void enter_folders(const char *name)
+{
+    if (chdir(name) != 0)
+        stop("go to", name);
+}
+
 void remove_folders(const char *name)
 {
     static const char *const names[] = {"owner/master", "owner/card",         "owner/table",  "owner/plan",        "owner/totals",
@@ -140,6 +152,7 @@ void remove_folders(const char *name)
                                         "host"};
     for (size_t i = 0; i < sizeof names / sizeof *names; i++)
         remove(names[i]);
-    if (chdir("..") != 0 || rmdir(name) != 0)
+    leave_folders();
+    if (rmdir(name) != 0)
         stop("remove", name);
 }

@@ -44,8 +44,11 @@ void copy_file(const char *from, const char *to);
 /* Overwrites a file with zero bytes and removes it. */
 void wipe(const char *name);
 
-/* Makes a folder with the folders `owner` and `host` in it, and goes there; goes back, and removes it with what the parties made. */
+/* Makes a folder with the folders `owner` and `host` in it, and goes there; goes back, and removes it with what the parties made. Between
+ * these, goes back and leaves it as it is; goes there again. */
 void make_folders(const char *name);
 void remove_folders(const char *name);
+void leave_folders(void);
+void enter_folders(const char *name);
 
 #endif

@@ -70,6 +70,11 @@ uint64_t owner_judges(uint64_t role);
 /* Answers the message. The host has nothing but the message, its blocks, their marks and its table. */
 uint64_t host_proves(void);
 
+/* Several files of one owner at one host, each in a folder of its own beside the others. Makes one reply, the file `pooled`, of the replies for
+ * all of them; judges it, and stores every card. */
+uint64_t host_pools(const char *const *folders, size_t count);
+uint64_t owner_judges_pool(uint64_t role, const char *const *folders, size_t count);
+
 /* A number of the owner's card, at its offset of LEGBARO_CARD_.., with so many bytes. */
 uint64_t in_card(size_t at, unsigned width);
 

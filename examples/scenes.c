@@ -39,6 +39,7 @@ void tell(const char *step, uint64_t result, uint64_t expected)
         [LEGBARO_NONE_PENDING] = "turned away: no change is pending",
         [LEGBARO_NO_RIGHT] = "turned away: this role may not",
         [LEGBARO_BAD_BATCH] = "turned away: these items are no batch",
+        [LEGBARO_BAD_POOL] = "turned away: these files are no pool",
     };
     printf("  %-56s %s\n", step, results[LEGBARO_CODE(result)]);
     if (LEGBARO_CODE(result) != expected) {

@@ -9,10 +9,11 @@
  *             updates and deletions in one batch, and sends the table back; in one step, or asked first and then committed or dropped
  *   audit     the owner draws a message and sends it; the host proves, with a reply; the owner judges the reply
  *
- * This file has what all calls share. The calls are in three parts, which it includes:
+ * This file has what all calls share. The calls are in four parts, which it includes:
  *
  *   legbaro/changes.h    set-up, update, delete, append, load, batch; the same five asked; commit, drop
  *   legbaro/audits.h     draw, wait, judge, cause; the host's proof
+ *   legbaro/pools.h      one reply for several files: the judging, and the host's pooling
  *   legbaro/planning.h   positions, sheet
  *
  * A block has B bytes. Blocks are numbered from 1 and lie in d rows: block m in row ((m-1) mod d) + 1, column (m-1) div d.
@@ -66,6 +67,16 @@
  * The totals of a change tell how many unused tokens cover its blocks, which no host may learn before these are drawn. The owner keeps
  * them, and those of set-up, and sends none of them. A proof's are the host's own.
  *
+ * POOLED REPLIES. An owner with several files at one host, all under one master, may audit them together, with one reply and one verdict.
+ *   1. The owner draws each file, two to sixteen of them, and sends the messages.
+ *   2. The host proves each, and makes one pooled reply of the replies with legbaro_pool.
+ *   3. The owner lends legbaro_judge_pool the cards in the same order, and stores all of them as they come back: no draw is open any more.
+ * A pooled reply holds the record of each file, and in place of the digests their xor. That is less than the single replies show. Where two
+ * digests differ from the right ones by the same bits, the differences cancel, and the pool is accepted; so with three or more, where all
+ * differences together cancel. A lost or altered block does not come to that by chance. Only who makes the digests could do it on purpose,
+ * and that is the host: it would have to know the xor of the right digests, and need not know each of them. So an accepted pool shows that
+ * the host could reckon the xor of all tokens drawn, and not that it could reckon each. Where that matters, judge singly.
+ *
  * ROLES. Surveyors, planners and centre managers work at one screen. Every call that is lent a card is told the role of who makes it, as
  * its first argument; set-up, and calls that are lent no card, take none. Who may do what:
  *
@@ -73,7 +84,7 @@
  *   append, load; the same asked              yes        yes       no
  *   update, delete, batch; the same asked     no         yes       no
  *   commit, drop                              no         yes       no
- *   draw, judge, cause                        no         yes       yes
+ *   draw, judge, cause, judge a pool          no         yes       yes
  *
  * A role that may not, and a number that is no role, is turned away with LEGBARO_NO_RIGHT ahead of every check. That answer depends on role
  * and call alone, and tells nothing of the other arguments. A permitted call answers and writes the same whichever role makes it. The
@@ -128,14 +139,17 @@
 #define LEGBARO_PLAN_BYTES 28
 #define LEGBARO_TOTALS_BYTES 16
 #define LEGBARO_SHEET_BYTES 40
+#define LEGBARO_POOLED_BYTES(files) (37 + 75 * (files)) /* a pooled reply of so many files */
 
-/* Limits. The least of every number is 1, but the counter starts at 0. */
+/* Limits. The least of every number is 1, but the counter starts at 0, and a pool at two files. */
 #define LEGBARO_MOST_BLOCK_BYTES 4096 /* B */
 #define LEGBARO_MOST_ROWS 1048576     /* d */
 #define LEGBARO_MOST_POSITIONS 512    /* r, which is no more than d either */
 #define LEGBARO_MOST_TOKENS 65536     /* t */
 #define LEGBARO_MOST_BLOCKS 16777216  /* n, which is less than d, d or more */
 #define LEGBARO_MOST_ITEMS 64         /* the changes in a batch */
+#define LEGBARO_LEAST_POOLED 2        /* the files of a pooled reply */
+#define LEGBARO_MOST_POOLED 16
 #define LEGBARO_MOST_COUNTER 4294967295u
 
 /* The minutes of a day, which are numbered from 0, and of a week. */
@@ -145,14 +159,14 @@
 /* Codes. */
 #define LEGBARO_OK 0
 #define LEGBARO_WRONG_LENGTH 1        /* a buffer has another length than the call asks */
-#define LEGBARO_WRONG_HEADER 2        /* a card or message of no version, or of another size than its version has; ask in version 1 or 2 */
+#define LEGBARO_WRONG_HEADER 2        /* a card, message or reply to pool of no version, or not of its size; ask in version 1 or 2 */
 #define LEGBARO_OUT_OF_LIMITS 3       /* a field of card, message or plan, or a number lent, is outside its limits */
 #define LEGBARO_NO_SUCH_BLOCK 4       /* the block number, or one in a batch, is 0 or above n */
 #define LEGBARO_FILE_FULL 5           /* append or load that would make n more than LEGBARO_MOST_BLOCKS */
 #define LEGBARO_NO_TOKEN_LEFT 6       /* draw after the last token */
 #define LEGBARO_BAD_RECORD 7          /* an unused record does not open; the lowest such token comes with the code */
 #define LEGBARO_TOKEN_OPEN 8          /* change, ask or draw while a drawn token is not judged */
-#define LEGBARO_NONE_OPEN 9           /* judge, or cause, while no token is drawn */
+#define LEGBARO_NONE_OPEN 9           /* judge, singly or a pool, or cause, while no token is drawn */
 #define LEGBARO_COUNTER_AT_MOST 10    /* change or ask with the last counter issued at LEGBARO_MOST_COUNTER */
 #define LEGBARO_REJECTED 11           /* judge: the reply does not prove possession */
 #define LEGBARO_NOT_WHOLE_BLOCKS 12   /* load of no bytes, or of a length that B does not divide */
@@ -165,6 +179,7 @@
 #define LEGBARO_NONE_PENDING 19       /* commit or drop while none is */
 #define LEGBARO_TOO_MANY_DAMAGED 21   /* a sheet for more damaged rows than there are rows */
 #define LEGBARO_NO_RIGHT 22           /* there is no such role, or it may not make this call */
+#define LEGBARO_BAD_POOL 23           /* a pool of too few or too many files, or with a file id that occurs twice */
 
 /* The two parts of a result: the code, and the number, which is a token with LEGBARO_BAD_RECORD. */
 #define LEGBARO_CODE(result) ((result) % 256)
@@ -216,6 +231,7 @@
 /* The calls. */
 #include "legbaro/changes.h"
 #include "legbaro/audits.h"
+#include "legbaro/pools.h"
 #include "legbaro/planning.h"
 
 #endif

@@ -4,6 +4,7 @@
 #include "chance.h"
 #include "files.h"
 #include "groups.h"
+#include "pooled.h"
 
 /* Under a memory checker one bit in so many is flipped. */
 enum { B = 28, D = 5, R = 5, T = 3, BITS = 7 };
@@ -133,6 +134,38 @@ static void master_bits(const struct file *changing, const struct file *judging)
     group_end();
 }
 
+/* A call with each bit of one of its buffers flipped: each is rejected, where that is certain. */
+static void call_bits(const struct call *sound, enum argument argument, int rejected)
+{
+    for (size_t bit = 0; bit < 8 * sound->lent[argument].length; bit = tried_behind(bit, BITS)) {
+        struct call call = call_copy(sound);
+        buffer_flip(&call.lent[argument], bit);
+        uint64_t number = call_compare(&call);
+        expect(!rejected || number == LEGBARO_REJECTED, "a pooled reply rejected with bit %lu flipped", (unsigned long)bit);
+        call_free(&call);
+    }
+}
+
+/* Every bit of a pooled reply that is accepted as it is, of the master, of its cards, one of each version, and of the replies to pool. */
+static void pool_bits(void)
+{
+    group_begin("every bit of a pooled reply, of the master, of its cards, and of the replies to pool");
+    struct buffer master = buffer_blank(LEGBARO_MASTER_BYTES);
+    struct file files[] = {pool_file(&master, 1), pool_file(&master, 2), pool_file(&master, 3)};
+    const struct file *pool[] = {&files[0], &files[1], &files[2]};
+    struct call call = pool_call(pool, 3), pooling = pooling_call(pool, 3);
+    call_bits(&call, REPLY, 1);
+    call_bits(&call, MASTER, 1);
+    call_bits(&call, CARDS, 0);
+    call_bits(&pooling, REPLIES, 0);
+    call_free(&call);
+    call_free(&pooling);
+    for (int e = 0; e < 3; e++)
+        file_end(&files[e]);
+    buffer_free(&master);
+    group_end();
+}
+
 static void version_bits(uint64_t version)
 {
     group_begin("files of version %llu for the bits", (unsigned long long)version);
@@ -166,4 +199,5 @@ void test_bits(void)
 {
     for (uint64_t version = FIRST_VERSION; version <= LAST_VERSION; version++)
         version_bits(version);
+    pool_bits();
 }

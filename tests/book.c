@@ -113,6 +113,31 @@ static struct edit edit_of(const struct call *call)
     return edit;
 }
 
+/* The cards of a pooled judging: "the other cards in their places, as lent", and the book's own in its place, where nothing is read. */
+static struct buffer pooled_cards(const struct book *book, const struct call *call)
+{
+    struct buffer cards = buffer_copy(&call->lent[CARDS]);
+    book_card(book, cards.bytes + call->place);
+    return cards;
+}
+
+static uint64_t pool_turned_away(const struct book *book, const struct call *call)
+{
+    struct buffer cards = pooled_cards(book, call);
+    uint64_t fault = second_pool_fault(call->role, call->lent[MASTER].length, cards.bytes, cards.length);
+    buffer_free(&cards);
+    return fault;
+}
+
+static uint64_t pool_verdict(const struct book *book, const struct call *call)
+{
+    struct buffer cards = pooled_cards(book, call);
+    uint64_t verdict =
+        second_pool_verdict(book->key, cards.bytes, cards.length, call->lent[REPLY].bytes, call->lent[REPLY].length);
+    buffer_free(&cards);
+    return verdict;
+}
+
 /* "Turned away", read with the book's card and table and the call's other arguments; "7 never comes up". */
 static uint64_t turned_away(const struct book *book, const struct call *call)
 {
@@ -128,6 +153,8 @@ static uint64_t turned_away(const struct book *book, const struct call *call)
                                  call->lent[PLAN].length, &when);
     case JUDGE:
         return second_judge_fault(call->role, master_length, card, size);
+    case JUDGE_POOL:
+        return pool_turned_away(book, call);
     case COMMIT:
     case DROP:
         return second_settle_fault(call->role, card, size);
@@ -253,6 +280,10 @@ uint64_t book_answer(struct book *book, const struct call *call)
         break;
     case JUDGE:
         answer = second_verdict(book->key, &book->numbers, call->lent[REPLY].bytes, call->lent[REPLY].length);
+        book->numbers.open = 0;
+        break;
+    case JUDGE_POOL:
+        answer = pool_verdict(book, call);
         book->numbers.open = 0;
         break;
     case COMMIT:

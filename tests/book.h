@@ -1,6 +1,7 @@
 /*
  * The plain book of paper 01: what a list of calls answers and leaves, kept as values. It is fed the set-up's arguments, then each
- * call's arguments without card and table, and nothing else.
+ * call's arguments without card and table, and nothing else. Of a pooled judging it is also fed the other cards, in their places, whatever
+ * they hold: each as long as its length field tells.
  */
 #ifndef BOOK_H
 #define BOOK_H
@@ -21,7 +22,7 @@ struct book {
 struct book book_start(const struct call *set_up);
 void book_end(struct book *book);
 
-/* What the book answers to a change, an ask, a commit, a drop, a draw or a judging; it takes the call in. */
+/* What the book answers to a change, an ask, a commit, a drop, a draw or a judging, singly or of a pool; it takes the call in. */
 uint64_t book_answer(struct book *book, const struct call *call);
 
 /* Block m, and its mark. */

@@ -34,14 +34,17 @@ static const struct {
     [DRAW] = {"draw", BIT(MASTER) | BIT(CARD) | BIT(MESSAGE) | BIT(PLAN), BIT(CARD) | BIT(MESSAGE), MANAGER_TOO},
     [JUDGE] = {"judge", BIT(MASTER) | BIT(CARD) | BIT(REPLY), BIT(CARD), MANAGER_TOO},
     [CAUSE] = {"cause", BIT(MASTER) | BIT(CARD) | BIT(REPLY), 0, MANAGER_TOO},
+    [JUDGE_POOL] = {"judge pool", BIT(MASTER) | BIT(CARDS) | BIT(REPLY), BIT(CARDS), MANAGER_TOO},
     [PROVE] = {"prove", BIT(MESSAGE) | BIT(BLOCKS) | BIT(MARKS) | BIT(TABLE) | BIT(REPLY) | BIT(TOTALS), BIT(REPLY) | BIT(TOTALS), 0},
+    [POOL] = {"pool", BIT(REPLIES) | BIT(POOLED), BIT(POOLED), 0},
     [POSITIONS] = {"positions", 0, 0, 0},
     [WAIT] = {"wait", BIT(PLAN), 0, 0},
     [SHEET] = {"sheet", BIT(OUT), BIT(OUT), 0},
 };
 
-static const char *const arguments[ARGUMENTS] = {"master", "id",        "blocks", "card",    "table", "second table", "old block",
-                                                 "marks",  "new block", "items",  "message", "plan",  "reply",        "totals", "sheet"};
+static const char *const arguments[ARGUMENTS] = {"master",    "id",    "blocks",  "card", "table", "second table", "old block", "marks",
+                                                 "new block", "items", "message", "plan", "reply", "totals",       "sheet",     "cards",
+                                                 "replies",   "pooled reply"};
 
 static unsigned long counts[KINDS][LAST_CODE + 1];
 

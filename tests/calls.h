@@ -24,7 +24,9 @@ enum kind {
     DRAW,
     JUDGE,
     CAUSE,
+    JUDGE_POOL,
     PROVE,
+    POOL,
     POSITIONS,
     WAIT,
     SHEET,
@@ -32,10 +34,30 @@ enum kind {
 };
 
 /* The highest code of any call. */
-enum { LAST_CODE = LEGBARO_NO_RIGHT };
+enum { LAST_CODE = LEGBARO_BAD_POOL };
 
-/* The buffers that calls are lent. */
-enum argument { MASTER, ID, BLOCKS, CARD, TABLE, SECOND, OLD, MARKS, NEW, ITEMS, MESSAGE, PLAN, REPLY, TOTALS, OUT, ARGUMENTS };
+/* The buffers that calls are lent. A pooled judging is lent its reply as a judging is. */
+enum argument {
+    MASTER,
+    ID,
+    BLOCKS,
+    CARD,
+    TABLE,
+    SECOND,
+    OLD,
+    MARKS,
+    NEW,
+    ITEMS,
+    MESSAGE,
+    PLAN,
+    REPLY,
+    TOTALS,
+    OUT,
+    CARDS,
+    REPLIES,
+    POOLED,
+    ARGUMENTS
+};
 
 struct call {
     enum kind kind;
@@ -43,6 +65,7 @@ struct call {
     uint64_t version, B, d, r, t, n;   /* of a set-up and of a sheet; positions takes r, d and n */
     uint64_t m;                        /* the block number of an update or a deletion, asked too; the damaged rows of a sheet */
     uint64_t year, month, day, minute; /* of a draw and of a wait */
+    size_t place;                      /* in a list, where the file's own card lies among the cards of a pooled judging */
     struct buffer lent[ARGUMENTS];
 };
 

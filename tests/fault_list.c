@@ -1,63 +1,7 @@
 /* See fault_list.h. */
-#include "fault_list.h"
+#include "fault_targets.h"
 
-/* What a fault alters: the length of a buffer, which is named as the argument is, a number, a field of card, message or items, what is
- * pending, a mark, or record 2. */
-enum target {
-    NUMBER_VERSION = ARGUMENTS,
-    NUMBER_B,
-    NUMBER_D,
-    NUMBER_R,
-    NUMBER_T,
-    NUMBER_N,
-    NUMBER_M,
-    NUMBER_YEAR,
-    NUMBER_MONTH,
-    NUMBER_DAY,
-    NUMBER_MINUTE,
-    NUMBER_ROLE,
-    CARD_LENGTH,
-    CARD_VERSION,
-    CARD_B,
-    CARD_D,
-    CARD_R,
-    CARD_T,
-    CARD_N,
-    CARD_CTR,
-    CARD_NEXT,
-    CARD_OPEN,
-    CARD_LAST_ISSUED,
-    CARD_PENDING,
-    MESSAGE_LENGTH,
-    MESSAGE_VERSION,
-    MESSAGE_I,
-    MESSAGE_B,
-    MESSAGE_D,
-    MESSAGE_R,
-    MESSAGE_N,
-    PLAN_START,
-    PLAN_END,
-    FIRST_MARK,
-    LAST_MARK,
-    FIRST_KIND,
-    LAST_KIND,
-    FIRST_NUMBER,
-    MIDDLE_NUMBER,
-    LAST_NUMBER,
-    FIRST_ITEM_MARK,
-    LAST_ITEM_MARK,
-    TAG_OF_RECORD_2,
-    TARGETS
-};
-
-#define LENGTH_OF(argument) ((enum target)(argument))
-
-/* Where a field is; of items, which are three, in which of them. */
-static const struct {
-    enum argument argument;
-    size_t item, at;
-    unsigned width;
-} fields[TARGETS] = {
+const struct field fault_fields[TARGETS] = {
     [CARD_LENGTH] = {CARD, 0, 0, 2},
     [CARD_VERSION] = {CARD, 0, 2, 1},
     [CARD_B] = {CARD, 0, LEGBARO_CARD_BLOCK_BYTES, 2},
@@ -87,6 +31,16 @@ static const struct {
     [LAST_NUMBER] = {ITEMS, 2, LEGBARO_ITEM_BLOCK, 4},
     [FIRST_ITEM_MARK] = {ITEMS, 0, LEGBARO_ITEM_MARK(B), 1},
     [LAST_ITEM_MARK] = {ITEMS, 2, LEGBARO_ITEM_MARK(B), 1},
+    [POOLED_LENGTH] = {REPLY, 0, 0, 2},
+    [POOLED_VERSION] = {REPLY, 0, 2, 1},
+    [POOLED_FILES] = {REPLY, 0, 3, 2},
+    [POOLED_XOR] = {REPLY, 0, 5, 8},
+    [POOLED_ID] = {REPLY, 0, 37, 8},
+    [POOLED_RECORD_VERSION] = {REPLY, 0, 37 + 12 + 2, 1},
+    [FIRST_REPLY_LENGTH] = {REPLIES, 0, 0, 2},
+    [LAST_REPLY_LENGTH] = {REPLIES, 2, 0, 2},
+    [FIRST_REPLY_VERSION] = {REPLIES, 0, 2, 1},
+    [LAST_REPLY_VERSION] = {REPLIES, 2, 2, 1},
 };
 
 /* A change, in one step or asked. */
@@ -97,7 +51,8 @@ static const struct {
 #define SETTLING (IN(COMMIT) | IN(DROP))
 #define JUDGING (IN(JUDGE) | IN(CAUSE))
 #define READ_CARD (CHANGES | SETTLING | IN(DRAW) | JUDGING)
-#define WITH_MASTER (IN(SET_UP) | CHANGES | IN(DRAW) | JUDGING)
+#define WITH_ROLE (READ_CARD | IN(JUDGE_POOL))
+#define WITH_MASTER (IN(SET_UP) | CHANGES | IN(DRAW) | JUDGING | IN(JUDGE_POOL))
 #define OF_A_FILE (IN(SET_UP) | IN(SHEET))
 #define NUMBERS (OF_A_FILE | IN(POSITIONS))
 #define COUNTED (IN(SET_UP) | CHANGES | IN(PROVE))
@@ -108,23 +63,19 @@ static const struct {
 #define ONE_STEP (IN_VERSION(LEGBARO_WITHOUT_MARKS) | IN_VERSION(LEGBARO_WITH_MARKS))
 #define MARKED (IN_VERSION(LEGBARO_WITH_MARKS) | TWO_STEPS)
 
-/* Values with a meaning of their own: the token before next, whatever that is, for CARD_OPEN; for what is pending nothing, the last counter
- * issued with as many blocks as there are, one of these alone, and another counter or number of blocks; for the length of a buffer none, one
- * byte less, one byte more, one item more than a batch may have, and the other size of a card. */
-#define BEFORE_NEXT UINT64_MAX
-enum { NOTHING, LAST_ISSUED, COUNTER_ALONE, BLOCKS_ALONE, BELOW_LAST, ABOVE_LAST, FEWER_BLOCKS, TOO_MANY_BLOCKS };
-enum { NO_BYTES, ONE_LESS, ONE_MORE, ONE_ITEM_TOO_MANY, OTHER_CARD };
-
 #define TOO_SHORT(kinds, place, argument) {kinds, place, LENGTH_OF(argument), NO_BYTES}, {kinds, place, LENGTH_OF(argument), ONE_LESS}
 #define WRONG_LENGTH(kinds, place, argument) TOO_SHORT(kinds, place, argument), {kinds, place, LENGTH_OF(argument), ONE_MORE}
+#define IN_EACH_CARD(place, target, value)                                                                                     \
+    {IN(JUDGE_POOL), place, OF_CARD(0, target), value}, {IN(JUDGE_POOL), place, OF_CARD(1, target), value},                   \
+        {IN(JUDGE_POOL), place, OF_CARD(2, target), value}
 
 /* `next` stands before `open`, what is pending behind other fields of the card, and lengths are last. */
 const struct fault faults[] = {
-    {READ_CARD, RIGHT, NUMBER_ROLE, 0},
-    {READ_CARD, RIGHT, NUMBER_ROLE, LEGBARO_MANAGER + 1},
-    {READ_CARD, RIGHT, NUMBER_ROLE, (UINT64_C(1) << 32) + LEGBARO_PLANNER},
-    {READ_CARD, RIGHT, NUMBER_ROLE, UINT64_MAX},
-    {READ_CARD & ~(EITHER(APPEND) | EITHER(LOAD)), RIGHT, NUMBER_ROLE, LEGBARO_SURVEYOR},
+    {WITH_ROLE, RIGHT, NUMBER_ROLE, 0},
+    {WITH_ROLE, RIGHT, NUMBER_ROLE, LEGBARO_MANAGER + 1},
+    {WITH_ROLE, RIGHT, NUMBER_ROLE, (UINT64_C(1) << 32) + LEGBARO_PLANNER},
+    {WITH_ROLE, RIGHT, NUMBER_ROLE, UINT64_MAX},
+    {WITH_ROLE & ~(EITHER(APPEND) | EITHER(LOAD)), RIGHT, NUMBER_ROLE, LEGBARO_SURVEYOR},
     {CHANGES | SETTLING, RIGHT, NUMBER_ROLE, LEGBARO_MANAGER},
     {IN(SET_UP), LIMITS, NUMBER_VERSION, 0},
     {IN(SET_UP), LIMITS, NUMBER_VERSION, LEGBARO_TWO_STEPS + 1},
@@ -246,6 +197,28 @@ const struct fault faults[] = {
     {EITHER(BATCH), BLOCK_NUMBER, LAST_NUMBER, UINT32_MAX},
     {EITHER(BATCH) | MARKED, ITEM_MARKS, FIRST_ITEM_MARK, 2},
     {EITHER(BATCH) | MARKED, ITEM_MARKS, LAST_ITEM_MARK, UINT8_MAX},
+    IN_EACH_CARD(CUT, CARD_LENGTH, 0),
+    IN_EACH_CARD(CUT, CARD_LENGTH, LEGBARO_CARD_BYTES),
+    IN_EACH_CARD(CUT, CARD_LENGTH, UINT16_MAX),
+    IN_EACH_CARD(HEADER, CARD_VERSION, 0),
+    IN_EACH_CARD(HEADER, CARD_VERSION, LEGBARO_TWO_STEPS + 1),
+    IN_EACH_CARD(LIMITS, CARD_B, 0),
+    IN_EACH_CARD(LIMITS, CARD_CTR, UINT64_MAX),
+    IN_EACH_CARD(LIMITS, CARD_OPEN, T + 4),
+    IN_EACH_CARD(OPEN_OR_NOT, CARD_OPEN, 0),
+    {IN(JUDGE_POOL), POOL_FITS, OF_CARD(1, CARD_ID), 0},
+    {IN(JUDGE_POOL), POOL_FITS, OF_CARD(2, CARD_ID), 0},
+    {IN(JUDGE_POOL), POOL_FITS, OF_CARD(2, CARD_ID), 1},
+    {IN(JUDGE_POOL), VERDICT, POOLED_LENGTH, 0},
+    {IN(JUDGE_POOL), VERDICT, POOLED_VERSION, LEGBARO_TWO_STEPS},
+    {IN(JUDGE_POOL), VERDICT, POOLED_FILES, POOL_FILES - 1},
+    {IN(JUDGE_POOL), VERDICT, POOLED_XOR, 0},
+    {IN(JUDGE_POOL), VERDICT, POOLED_ID, 0},
+    {IN(JUDGE_POOL), VERDICT, POOLED_RECORD_VERSION, 0},
+    {IN(POOL), HEADER, FIRST_REPLY_LENGTH, 0},
+    {IN(POOL), HEADER, LAST_REPLY_LENGTH, LEGBARO_REPLY_BYTES},
+    {IN(POOL), HEADER, FIRST_REPLY_VERSION, 0},
+    {IN(POOL), HEADER, LAST_REPLY_VERSION, LEGBARO_TWO_STEPS + 1},
     {CHANGES, RECORDS, TAG_OF_RECORD_2, 0},
     WRONG_LENGTH(WITH_MASTER, FIXED_SIZE, MASTER),
     WRONG_LENGTH(IN(SET_UP) | READ_CARD, FIXED_SIZE, CARD),
@@ -268,7 +241,14 @@ const struct fault faults[] = {
     WRONG_LENGTH(EITHER(LOAD), WHOLE_BLOCKS, BLOCKS),
     WRONG_LENGTH(EITHER(BATCH), ITEMS_FIT, ITEMS),
     {EITHER(BATCH), ITEMS_FIT, LENGTH_OF(ITEMS), ONE_ITEM_TOO_MANY},
-    WRONG_LENGTH(JUDGING, VERDICT, REPLY),
+    WRONG_LENGTH(JUDGING | IN(JUDGE_POOL), VERDICT, REPLY),
+    {IN(JUDGE_POOL), CUT_REST, LENGTH_OF(CARDS), ONE_LESS},
+    {IN(JUDGE_POOL), CUT_REST, LENGTH_OF(CARDS), ONE_MORE},
+    {IN(JUDGE_POOL), POOL_FITS, LENGTH_OF(CARDS), ONE_FILE_TOO_MANY},
+    {IN(POOL), FIXED_SIZE, LENGTH_OF(REPLIES), ONE_LESS},
+    {IN(POOL), FIXED_SIZE, LENGTH_OF(REPLIES), ONE_MORE},
+    {IN(POOL), POOL_FITS, LENGTH_OF(REPLIES), ONE_FILE_TOO_MANY},
+    WRONG_LENGTH(IN(POOL), SIZE, POOLED),
 };
 
 const int fault_count = sizeof faults / sizeof *faults;
@@ -293,68 +273,23 @@ enum place fault_first(const struct fault *a, const struct fault *b)
     return a->place < b->place ? a->place : b->place;
 }
 
-static void make_length_fault(struct buffer *b, uint64_t value, uint64_t version)
-{
-    size_t lengths[] = {[NO_BYTES] = 0,
-                        [ONE_LESS] = b->length - 1,
-                        [ONE_MORE] = b->length + 1,
-                        [ONE_ITEM_TOO_MANY] = (LEGBARO_MOST_ITEMS + 1) * LEGBARO_ITEM_BYTES(version, B),
-                        [OTHER_CARD] = LEGBARO_CARD_BYTES + LEGBARO_TWO_STEP_CARD_BYTES - b->length};
-    buffer_resize(b, lengths[value]);
-}
-
-/* Puts what is pending into a card of version 3. */
-static void make_pending(struct buffer *card, uint64_t value)
-{
-    uint64_t last = buffer_number(card, LEGBARO_CARD_LAST_ISSUED, 8), n = buffer_number(card, LEGBARO_CARD_BLOCKS, 4);
-    const uint64_t counters[] = {[NOTHING] = 0,         [LAST_ISSUED] = last,    [COUNTER_ALONE] = last, [BLOCKS_ALONE] = 0,
-                                 [BELOW_LAST] = last - 1, [ABOVE_LAST] = last + 1, [FEWER_BLOCKS] = last,  [TOO_MANY_BLOCKS] = last};
-    const uint64_t blocks[] = {[NOTHING] = 0,    [LAST_ISSUED] = n, [COUNTER_ALONE] = 0,    [BLOCKS_ALONE] = n,
-                               [BELOW_LAST] = n, [ABOVE_LAST] = n,  [FEWER_BLOCKS] = n - 1, [TOO_MANY_BLOCKS] = LEGBARO_MOST_BLOCKS + 1};
-    buffer_put_number(card, LEGBARO_CARD_PENDING_COUNTER, 8, counters[value]);
-    buffer_put_number(card, LEGBARO_CARD_PENDING_BLOCKS, 4, blocks[value]);
-}
-
-static void make_field_fault(struct call *call, const struct fault *fault, uint64_t version)
-{
-    struct buffer *b = &call->lent[fields[fault->target].argument];
-    uint64_t value = fault->value;
-    if (fault->target == CARD_OPEN && value == BEFORE_NEXT)
-        value = buffer_number(b, LEGBARO_CARD_NEXT, 4) - 1;
-    size_t at = fields[fault->target].item * LEGBARO_ITEM_BYTES(version, B) + fields[fault->target].at;
-    buffer_put_number(b, at, fields[fault->target].width, value);
-}
-
-void fault_make(struct call *call, const struct fault *fault, uint64_t version)
-{
-    uint64_t *const numbers[] = {&call->version, &call->B,    &call->d,     &call->r,   &call->t,     &call->n,
-                                 &call->m,       &call->year, &call->month, &call->day, &call->minute, &call->role};
-    if (fault->target < LENGTH_OF(ARGUMENTS))
-        make_length_fault(&call->lent[fault->target], fault->value, version);
-    else if (fault->target <= NUMBER_ROLE)
-        *numbers[fault->target - NUMBER_VERSION] = fault->value;
-    else if (fault->target == TAG_OF_RECORD_2)
-        buffer_flip(&call->lent[TABLE], 8 * (2 * LEGBARO_RECORD_BYTES - 1));
-    else if (fault->target == CARD_PENDING)
-        make_pending(&call->lent[CARD], fault->value);
-    else
-        make_field_fault(call, fault, version);
-}
-
 uint64_t fault_number(enum place place, enum kind kind)
 {
     const uint64_t numbers[] = {
         [RIGHT] = LEGBARO_NO_RIGHT,
+        [CUT] = LEGBARO_WRONG_HEADER,
+        [CUT_REST] = LEGBARO_WRONG_LENGTH,
         [TIME] = LEGBARO_BAD_TIME,
         [FIXED_SIZE] = LEGBARO_WRONG_LENGTH,
         [HEADER] = LEGBARO_WRONG_HEADER,
         [LIMITS] = LEGBARO_OUT_OF_LIMITS,
         [POSITIONS_GIVEN] = LEGBARO_TOO_MANY_POSITIONS,
         [DAMAGED_ROWS] = LEGBARO_TOO_MANY_DAMAGED,
+        [POOL_FITS] = LEGBARO_BAD_POOL,
         [WINDOWS] = LEGBARO_OUTSIDE_WINDOWS,
         [SIZE] = LEGBARO_WRONG_LENGTH,
         [MARK] = LEGBARO_BAD_MARK,
-        [OPEN_OR_NOT] = kind == JUDGE || kind == CAUSE ? LEGBARO_NONE_OPEN : LEGBARO_TOKEN_OPEN,
+        [OPEN_OR_NOT] = kind == JUDGE || kind == CAUSE || kind == JUDGE_POOL ? LEGBARO_NONE_OPEN : LEGBARO_TOKEN_OPEN,
         [PENDING_OR_NOT] = kind == COMMIT || kind == DROP ? LEGBARO_NONE_PENDING : LEGBARO_CHANGE_PENDING,
         [TOKENS_LEFT] = LEGBARO_NO_TOKEN_LEFT,
         [ITEMS_FIT] = LEGBARO_BAD_BATCH,

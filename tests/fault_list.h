@@ -8,23 +8,26 @@
 #include "calls.h"
 
 /* The files have NOW_N blocks and the counter NOW_CTR where they are changed; in version 3 two asks were dropped. A load has LOADED blocks,
- * a batch has items on the blocks 2, 4 and 6. R × D / N is 3.75. */
-enum { B = 28, D = 5, R = 3, T = 3, N = 4, NOW_N = N + 3, NOW_CTR = 2, LOADED = 3, POSITIONS_ANSWER = 4 };
+ * a batch has items on the blocks 2, 4 and 6. A pool has POOL_FILES, each of the version behind the one before's. R × D / N is 3.75. */
+enum { B = 28, D = 5, R = 3, T = 3, N = 4, NOW_N = N + 3, NOW_CTR = 2, LOADED = 3, POOL_FILES = 3, POSITIONS_ANSWER = 4 };
 enum { FIRST_ITEM = 2, MIDDLE_ITEM = 4, LAST_ITEM = 6 };
 
 /* "Order: 1 for buffers of fixed size, 2, 3, 1 for sizes that follow from fields, then 8 or 9, 6, 4, 5, 10, 7", and the verdict or the
  * cause last; a load's 12 "just before 5"; the helper's 13 "after 3"; a batch's 14 "just before 4"; 15 "after the lengths that follow from
  * fields", "in a batch straight after 14"; of times "before everything else" 16, "and after 3 a draw outside every window (17)"; "straight
  * after 8" 18, and "then a commit or drop with nothing pending (19)"; of a sheet "after 3, m above d (21)"; "ahead of every
- * check" 22. */
+ * check" 22; "straight after 22" the cut of a pool's cards, which comes to 2 or to 1; of a pool "after 3" 23. */
 enum place {
     RIGHT,
+    CUT,
+    CUT_REST,
     TIME,
     FIXED_SIZE,
     HEADER,
     LIMITS,
     POSITIONS_GIVEN,
     DAMAGED_ROWS,
+    POOL_FITS,
     WINDOWS,
     SIZE,
     MARK,
@@ -60,6 +63,9 @@ enum { YEAR = 2026, MONTH = 11, DAY = 16, MINUTE = 600, OPEN_UNTIL = LEGBARO_DAY
 /* Two faults are made in the order of the list. */
 extern const struct fault faults[];
 extern const int fault_count;
+
+/* The version of file e, from 0, of a pool that begins with one of a version. */
+uint64_t fault_pool_version(uint64_t version, size_t e);
 
 /* Whether a call of a kind on a file of a version may have a fault; and makes it. */
 int fault_has(const struct fault *fault, enum kind kind, uint64_t version);

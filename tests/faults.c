@@ -5,11 +5,13 @@
 #include "files.h"
 #include "groups.h"
 #include "hours.h"
+#include "pooled.h"
 
 /* Three files of one version on which only a fault turns a call away, as far as the version goes. On `changing`, for changes, asks and
  * draws, token 1 is spent; on `judging`, for judgings, causes and proofs, token 2 is drawn; on `settling`, for commits and drops, a load is
- * pending in version 3. */
+ * pending in version 3. And a pooled judging and a pooling that would be accepted, of files of all versions, this one first. */
 static struct file changing, judging, settling;
+static struct call judging_pool, pooling;
 static uint64_t version;
 
 static struct file prepared(void)
@@ -65,6 +67,10 @@ static struct call faultless(enum kind kind)
         return open_wait();
     if (kind == SHEET)
         return call_sheet(B, D, R, T, N, D);
+    if (kind == JUDGE_POOL)
+        return call_copy(&judging_pool);
+    if (kind == POOL)
+        return call_copy(&pooling);
     if (kind == LOAD)
         return file_load_call(&changing, LOADED);
     if (kind == BATCH)
@@ -125,6 +131,20 @@ static void every_two_faults(enum kind kind)
     group_end();
 }
 
+static void make_pool(void)
+{
+    struct file files[POOL_FILES];
+    const struct file *pool[POOL_FILES];
+    for (size_t e = 0; e < POOL_FILES; e++) {
+        files[e] = pool_file(&judging.master, fault_pool_version(version, e));
+        pool[e] = &files[e];
+    }
+    judging_pool = pool_call(pool, POOL_FILES);
+    pooling = pooling_call(pool, POOL_FILES);
+    for (size_t e = 0; e < POOL_FILES; e++)
+        file_end(&files[e]);
+}
+
 static void version_faults(void)
 {
     group_begin("files of version %llu for the faults", (unsigned long long)version);
@@ -134,6 +154,7 @@ static void version_faults(void)
     file_do(&judging, DRAW);
     if (version == LEGBARO_TWO_STEPS)
         file_do(&settling, ASK_LOAD);
+    make_pool();
     group_end();
     for (int kind = 0; kind < KINDS; kind++) {
         every_fault(kind);
@@ -142,6 +163,8 @@ static void version_faults(void)
     file_end(&changing);
     file_end(&judging);
     file_end(&settling);
+    call_free(&judging_pool);
+    call_free(&pooling);
 }
 
 void test_faults(void)

@@ -224,6 +224,8 @@ uint64_t file_run(struct file *file, struct call *call)
     take_over(&file->card, &call->lent[CARD]);
     take_over(&file->table, &call->lent[TABLE]);
     take_over(&file->message, &call->lent[MESSAGE]);
+    if (call->kind == JUDGE_POOL)
+        memcpy(file->card.bytes, call->lent[CARDS].bytes + call->place, file->card.length);
     if (is_ask(call->kind) && number == LEGBARO_OK)
         take_over(&file->asked, &call->lent[SECOND]);
     if (call_takes(call->kind, TOTALS) && number == LEGBARO_OK)

@@ -25,10 +25,11 @@ struct file file_of(const struct call *set_up);
 struct file file_set_up(uint64_t version, uint64_t B, uint64_t d, uint64_t r, uint64_t t, uint64_t n);
 void file_end(struct file *file);
 
-/* A call on the file with nothing wrong in its arguments: any role that may make it; a change, asked or not, has a block number that exists,
- * present bytes and mark, and a random new block, a load a few random blocks, a batch a few items, an ask any bytes where the second table
- * is to be, a draw any plan and any time that it allows, a proof the message drawn last and the current blocks and marks, a judging, or the
- * question for a cause, the reply of such a proof; and any bytes where totals are to be. The state may still turn it away. */
+/* A call on the file, those of pools apart, with nothing wrong in its arguments: any role that may make it; a change, asked or not, has a
+ * block number that exists, present bytes and mark, and a random new block, a load a few random blocks, a batch a few items, an ask any
+ * bytes where the second table is to be, a draw any plan and any time that it allows, a proof the message drawn last and the current blocks
+ * and marks, a judging, or the question for a cause, the reply of such a proof; and any bytes where totals are to be. The state may still
+ * turn it away. */
 struct call file_call(const struct file *file, enum kind kind);
 
 /* A load of so many random blocks. */
@@ -41,7 +42,7 @@ struct call file_batch_of(const struct file *file, const uint64_t *blocks, size_
 size_t file_item_at(const struct file *file, size_t item, size_t offset);
 
 /* Runs a change, ask, commit, drop, draw or judging: compared with the second implementation and with the book. The file takes the buffers
- * that it left, and with a commit the asked table for its own; the call is freed. Answers the number. */
+ * that it left, of a pool the card in its place, and with a commit the asked table for its own; the call is freed. Answers the number. */
 uint64_t file_run(struct file *file, struct call *call);
 
 /* `file_run` of `file_call`, of `file_load_call` and of `file_batch_call`, expected to be accepted. */

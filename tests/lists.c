@@ -6,8 +6,11 @@
 #include "files.h"
 #include "groups.h"
 #include "hours.h"
+#include "pooled.h"
 
-enum { LONGEST = 40, MOST_TOKENS = 6, MOST_LOADED = 40, MOST_NONCES = MOST_TOKENS * (1 + LONGEST) };
+#include <string.h>
+
+enum { LONGEST = 40, LONGEST_CARD = 80, MOST_TOKENS = 6, MOST_LOADED = 40, MOST_NONCES = MOST_TOKENS * (1 + LONGEST) };
 
 /* Where a token record has its counter and its token number. */
 enum { RECORD_COUNTER = 3, RECORD_TOKEN = 11 };
@@ -73,6 +76,43 @@ static void disturb_hours(struct call *call)
     call_at(call, &when);
 }
 
+/* Any bytes behind a length field that tells how many: as many as a card has, or any number. */
+static struct buffer no_card(void)
+{
+    struct buffer b = buffer_blank(chance_of(2) ? second_card_bytes(any_version()) : 2 + chance_below(LONGEST_CARD));
+    chance_bytes(b.bytes, b.length);
+    buffer_put_number(&b, 0, 2, b.length - 2);
+    return b;
+}
+
+/* A card with some of these: another version, no token drawn, the file's own id, a bit flipped behind the length field. */
+static struct buffer another_card(const struct file *file, const uint8_t *card)
+{
+    struct card numbers = second_read_card(card);
+    if (chance_of(3))
+        numbers.version = any_version();
+    if (chance_of(3))
+        numbers.open = 0;
+    if (chance_of(3))
+        memcpy(numbers.id, file->book.numbers.id, sizeof numbers.id);
+    struct buffer other = buffer_blank(second_card_bytes(numbers.version));
+    second_write_card(other.bytes, &numbers);
+    if (chance_of(3))
+        buffer_flip(&other, 8 * 2 + chance_below(8 * (other.length - 2)));
+    return other;
+}
+
+/* Puts something in the place of one of the other cards of a pooled judging: "whatever else they hold" */
+static void disturb_pool(const struct file *file, struct call *call)
+{
+    size_t places[POOL_ROOM], at = places[chance_below(pool_cut(&call->lent[CARDS], places))];
+    if (at == call->place)
+        return;
+    struct buffer other = chance_of(3) ? no_card() : another_card(file, call->lent[CARDS].bytes + at);
+    pool_put_card(call, at, &other);
+    buffer_free(&other);
+}
+
 /* Any role, with a right or without, or a number that is none. */
 static uint64_t any_role(void)
 {
@@ -93,19 +133,21 @@ static void disturb(const struct file *file, struct call *call)
         call->lent[MARKS].bytes[0] = (uint8_t)no_mark();
     else if (chance_of(4))
         call->m = no_such_block(file);
-    else if (call->kind == JUDGE && chance_of(2))
+    else if (call->kind == JUDGE_POOL && chance_of(2))
+        disturb_pool(file, call);
+    else if ((call->kind == JUDGE || call->kind == JUDGE_POOL) && chance_of(2))
         flip_any_bit(&call->lent[REPLY]);
     else if (call_takes(call->kind, argument))
         wrong_length(&call->lent[argument]);
 }
 
-/* Which call comes next, of a change whether or not it is asked: a drawn token is mostly judged, what is pending is mostly committed or
- * dropped, and drawing is rarer than changing. */
+/* Which call comes next, of a change whether or not it is asked: a drawn token is mostly judged, at times in a pool, what is pending is mostly
+ * committed or dropped, and drawing is rarer than changing. */
 static enum kind next_kind(const struct file *file)
 {
     static const enum kind changes[] = {UPDATE, DELETE, APPEND, LOAD, BATCH};
     if (file->book.numbers.open ? chance_of(2) : chance_of(20))
-        return JUDGE;
+        return chance_of(4) ? JUDGE_POOL : JUDGE;
     if (file->book.numbers.pending ? !chance_of(4) : chance_of(20))
         return chance_of(2) ? COMMIT : DROP;
     return chance_of(5) ? DRAW : changes[chance_below(COUNT(changes))];
@@ -118,6 +160,12 @@ static uint64_t most_items(const struct file *file)
     return n < LEGBARO_MOST_ITEMS ? n : LEGBARO_MOST_ITEMS;
 }
 
+/* A call on the file, in a pool with others where it is a pooled judging. */
+static struct call call_on(const struct file *file, enum kind kind)
+{
+    return kind == JUDGE_POOL ? pool_among_others(file) : file_call(file, kind);
+}
+
 /* A call of the list with nothing wrong in it. A load or a batch has a few blocks or, at times, many. An update may leave its block. */
 static struct call next_in_one_step(const struct file *file)
 {
@@ -126,7 +174,7 @@ static struct call next_in_one_step(const struct file *file)
         return file_load_call(file, 1 + chance_below(MOST_LOADED));
     if (kind == BATCH && chance_of(4))
         return file_batch_call(file, 1 + chance_below(most_items(file)));
-    struct call call = file_call(file, kind);
+    struct call call = call_on(file, kind);
     if (kind == UPDATE && chance_of(5))
         for (size_t i = 0; i < call.lent[NEW].length; i++)
             call.lent[NEW].bytes[i] = call.lent[OLD].bytes[i];
@@ -188,7 +236,7 @@ static void step(struct file *file, struct nonces *nonces)
  * of it. */
 static void aside(const struct file *file)
 {
-    struct call call = file_call(file, (enum kind)(UPDATE + chance_below(PROVE + 1 - UPDATE)));
+    struct call call = call_on(file, (enum kind)(UPDATE + chance_below(PROVE + 1 - UPDATE)));
     if (chance_of(8))
         call.role = any_role();
     for (uint64_t faults = 1 + chance_below(2); faults; faults--) {

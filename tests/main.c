@@ -69,6 +69,7 @@ int main(int count, char **words)
     test_roles();
     test_silence();
     test_causes();
+    test_pools();
     test_plans();
     test_sheets();
     test_times();

@@ -4,6 +4,7 @@
 #include "files.h"
 #include "groups.h"
 #include "hours.h"
+#include "pooled.h"
 
 enum { B = 28, D = 5, R = 3, T = 3 };
 
@@ -200,6 +201,82 @@ static void without_right(const struct file *file)
     }
 }
 
+/* Code 23's small inputs: no card, one card, a card twice. And two cards, of which the second has a length field of 42, is a byte short, has a
+ * byte behind it, or no token drawn. */
+static void broken_pools(const struct file *const *two)
+{
+    const struct file *twice[] = {two[0], two[0]};
+    size_t size = two[0]->card.length;
+    struct call call = pool_call(two, 0);
+    call_finish(&call, LEGBARO_BAD_POOL, "no card");
+
+    call = pool_call(two, 1);
+    call_finish(&call, LEGBARO_BAD_POOL, "one card");
+
+    call = pool_call(twice, 2);
+    call_finish(&call, LEGBARO_BAD_POOL, "a card twice");
+
+    call = pool_call(two, 2);
+    buffer_put_number(&call.lent[CARDS], size, 2, 42);
+    call_finish(&call, LEGBARO_WRONG_HEADER, "a card of length 42");
+
+    call = pool_call(two, 2);
+    buffer_resize(&call.lent[CARDS], 2 * size - 1);
+    call_finish(&call, LEGBARO_WRONG_LENGTH, "the last card a byte short");
+
+    call = pool_call(two, 2);
+    buffer_resize(&call.lent[CARDS], 2 * size + 1);
+    call_finish(&call, LEGBARO_WRONG_LENGTH, "a byte behind the cards");
+
+    call = pool_call(two, 2);
+    buffer_put_number(&call.lent[CARDS], size + LEGBARO_CARD_OPEN, 4, 0);
+    call_finish(&call, LEGBARO_NONE_OPEN, "a card with no token drawn");
+
+    call = pool_call(two, 2);
+    call.role = LEGBARO_SURVEYOR;
+    call_finish(&call, LEGBARO_NO_RIGHT, "by the surveyor");
+
+    call = pool_call(two, 2);
+    call_finish(&call, LEGBARO_OK, "two cards");
+}
+
+/* No reply to pool, one, a byte less than two, one of version 0, and a pooled reply that is a byte short. */
+static void broken_poolings(const struct file *const *two)
+{
+    struct call call = pooling_call(two, 0);
+    call_finish(&call, LEGBARO_BAD_POOL, "no reply");
+
+    call = pooling_call(two, 1);
+    call_finish(&call, LEGBARO_BAD_POOL, "one reply");
+
+    call = pooling_call(two, 2);
+    buffer_resize(&call.lent[REPLIES], 2 * LEGBARO_REPLY_BYTES - 1);
+    call_finish(&call, LEGBARO_WRONG_LENGTH, "no whole replies");
+
+    call = pooling_call(two, 2);
+    call.lent[REPLIES].bytes[LEGBARO_REPLY_BYTES + 2] = 0;
+    call_finish(&call, LEGBARO_WRONG_HEADER, "a reply of version 0");
+
+    call = pooling_call(two, 2);
+    buffer_resize(&call.lent[POOLED], LEGBARO_POOLED_BYTES(2) - 1);
+    call_finish(&call, LEGBARO_WRONG_LENGTH, "a pooled reply a byte short");
+
+    call = pooling_call(two, 2);
+    call_finish(&call, LEGBARO_OK, "two replies");
+}
+
+static void two_files(uint64_t version)
+{
+    struct buffer master = buffer_blank(LEGBARO_MASTER_BYTES);
+    struct file files[] = {pool_file(&master, version), pool_file(&master, version)};
+    const struct file *two[] = {&files[0], &files[1]};
+    broken_pools(two);
+    broken_poolings(two);
+    file_end(&files[0]);
+    file_end(&files[1]);
+    buffer_free(&master);
+}
+
 /* The small inputs on a new file. */
 static void small_calls(struct file *file)
 {
@@ -285,6 +362,7 @@ static void small_inputs(uint64_t version)
     too_many_positions();
     too_many_damaged();
     most_items(version);
+    two_files(version);
     last_token_drawn(version);
     two_steps(version);
     taken(version);

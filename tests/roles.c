@@ -4,6 +4,7 @@
 #include "chance.h"
 #include "files.h"
 #include "groups.h"
+#include "pooled.h"
 
 #define COUNT(array) (sizeof(array) / sizeof *(array))
 
@@ -48,7 +49,7 @@ static void end(void)
 static struct call faultless(enum kind kind)
 {
     const struct file *file = kind == JUDGE || kind == CAUSE ? &judging : kind == COMMIT || kind == DROP ? &settling : &changing;
-    return file_call(file, kind);
+    return kind == JUDGE_POOL ? pool_among_others(&judging) : file_call(file, kind);
 }
 
 /* ---- Every role ---- */
@@ -85,12 +86,14 @@ static void by_every_role(struct call *lent)
     call_free(lent);
 }
 
-/* "Role 1, surveyor, may append and load, or ask these; role 2, planner, everything; role 3, manager, draw, judge and ask the cause" */
+/* "Role 1, surveyor, may append and load, or ask these; role 2, planner, everything; role 3, manager, draw, judge and ask the cause"; a pooled
+ * reply is "judged by roles 2 and 3" */
 static void rights(void)
 {
     group_begin("the rights of each role");
-    for (enum kind kind = UPDATE; kind <= CAUSE; kind++) {
-        int adding = unasked(kind) == APPEND || unasked(kind) == LOAD, auditing = kind == DRAW || kind == JUDGE || kind == CAUSE;
+    for (enum kind kind = UPDATE; kind <= JUDGE_POOL; kind++) {
+        int adding = unasked(kind) == APPEND || unasked(kind) == LOAD;
+        int auditing = kind == DRAW || kind == JUDGE || kind == CAUSE || kind == JUDGE_POOL;
         for (size_t i = 0; i < COUNT(roles); i++) {
             int may = roles[i] == 2 || (roles[i] == 1 && adding) || (roles[i] == 3 && auditing);
             expect(call_permits(kind, roles[i]) == may, "%s by role %llu", call_name(kind), (unsigned long long)roles[i]);
@@ -103,7 +106,7 @@ static void every_call(uint64_t version)
 {
     group_begin("every call by every role, version %llu", (unsigned long long)version);
     begin(version);
-    for (enum kind kind = UPDATE; kind <= CAUSE; kind++) {
+    for (enum kind kind = UPDATE; kind <= JUDGE_POOL; kind++) {
         struct call call = faultless(kind);
         by_every_role(&call);
     }
@@ -131,7 +134,7 @@ static void disturbed_calls(uint64_t version)
     group_begin("calls with something wrong in them by every role, version %llu", (unsigned long long)version);
     begin(version);
     for (uint64_t i = 0; i < ROUNDS; i = tried_behind(i, 5)) {
-        struct call call = faultless((enum kind)(UPDATE + chance_below(CAUSE + 1 - UPDATE)));
+        struct call call = faultless((enum kind)(UPDATE + chance_below(JUDGE_POOL + 1 - UPDATE)));
         for (uint64_t times = 1 + chance_below(3); times; times--)
             disturb(&call);
         by_every_role(&call);
@@ -158,7 +161,7 @@ static void any_calls(void)
 {
     group_begin("calls of any bytes and numbers by every role");
     for (uint64_t i = 0; i < ROUNDS; i = tried_behind(i, 5)) {
-        struct call call = any_call((enum kind)(UPDATE + chance_below(CAUSE + 1 - UPDATE)));
+        struct call call = any_call((enum kind)(UPDATE + chance_below(JUDGE_POOL + 1 - UPDATE)));
         by_every_role(&call);
     }
     group_end();

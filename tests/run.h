@@ -48,8 +48,12 @@
         return before##_judge##behind(call->role, LENT(MASTER), LENT(CARD), LENT(REPLY));                                      \
     case CAUSE:                                                                                                                \
         return before##_cause##behind(call->role, LENT(MASTER), LENT(CARD), LENT(REPLY));                                      \
+    case JUDGE_POOL:                                                                                                           \
+        return before##_judge_pool##behind(call->role, LENT(MASTER), LENT(CARDS), LENT(REPLY));                                \
     case PROVE:                                                                                                                \
         return before##_prove##behind(LENT(MESSAGE), LENT(BLOCKS), LENT(MARKS), LENT(TABLE), LENT(REPLY), LENT(TOTALS));       \
+    case POOL:                                                                                                                 \
+        return before##_pool##behind(LENT(REPLIES), LENT(POOLED));                                                             \
     case WAIT:                                                                                                                 \
         return before##_wait##behind(LENT(PLAN), LENT_TIME);                                                                   \
     case SHEET:                                                                                                                \

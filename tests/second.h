@@ -11,8 +11,8 @@
  *   struct item, second_item                an item of a batch
  *   second_token                            the token in a record of a table
  *   struct when, second_weekday             a date and minute, and the weekday of a date
- *   second_change_fault .. second_judge_fault   the code of a call that is turned away, 0 for none
- *   second_verdict                          0 or 11
+ *   second_change_fault .. second_pool_fault    the code of a call that is turned away, 0 for none
+ *   second_verdict, second_pool_verdict     0 or 11
  *   struct walk, second_half_width, second_permuted, second_permuted_back   the permutation P
  */
 #ifndef SECOND_H
@@ -185,12 +185,19 @@ uint64_t second_cause(uint64_t role,
                       const uint8_t *card, size_t card_length,
                       const uint8_t *reply, size_t reply_length);
 
+uint64_t second_judge_pool(uint64_t role,
+                           const uint8_t *master, size_t master_length,
+                           uint8_t *cards, size_t cards_length,
+                           const uint8_t *reply, size_t reply_length);
+
 uint64_t second_prove(const uint8_t *message, size_t message_length,
                       const uint8_t *blocks, size_t blocks_length,
                       const uint8_t *marks, size_t marks_length,
                       const uint8_t *table, size_t table_length,
                       uint8_t *reply, size_t reply_length,
                       uint8_t *totals, size_t totals_length);
+
+uint64_t second_pool(const uint8_t *replies, size_t replies_length, uint8_t *pooled, size_t pooled_length);
 
 uint64_t second_positions(uint64_t r, uint64_t planned, uint64_t present);
 
@@ -219,7 +226,8 @@ size_t second_item_bytes(const struct card *c);
 /* Whether record i of a table opens at the card's counter; its token where it does. */
 int second_token(const uint8_t *master, const struct card *c, const uint8_t *table, uint64_t i, uint8_t *token);
 
-/* The code of a change in one step and of an ask, code 7 apart, of a commit or drop, of a draw, and of a judging before its verdict. */
+/* The code of a change in one step and of an ask, code 7 apart, of a commit or drop, of a draw, and of a judging, of one card or of several
+ * end to end, before its verdict. */
 uint64_t second_change_fault(uint64_t role, const struct edit *edit, size_t master_length, const uint8_t *card, size_t card_length,
                              size_t table_length, size_t totals_length);
 uint64_t second_ask_fault(uint64_t role, const struct edit *edit, size_t master_length, const uint8_t *card, size_t card_length,
@@ -228,9 +236,11 @@ uint64_t second_settle_fault(uint64_t role, const uint8_t *card, size_t card_len
 uint64_t second_draw_fault(uint64_t role, size_t master_length, const uint8_t *card, size_t card_length, size_t message_length,
                            const uint8_t *plan, size_t plan_length, const struct when *when);
 uint64_t second_judge_fault(uint64_t role, size_t master_length, const uint8_t *card, size_t card_length);
+uint64_t second_pool_fault(uint64_t role, size_t master_length, const uint8_t *cards, size_t cards_length);
 
-/* The verdict on a reply of any length. */
+/* The verdict on a reply of any length; on a pooled one, for cards without a fault. */
 uint64_t second_verdict(const uint8_t *master, const struct card *c, const uint8_t *reply, size_t reply_length);
+uint64_t second_pool_verdict(const uint8_t *master, const uint8_t *cards, size_t cards_length, const uint8_t *reply, size_t reply_length);
 
 /* The weekday of a date within the limits, 0 for Monday. */
 unsigned second_weekday(const struct when *when);

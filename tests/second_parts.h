@@ -9,6 +9,7 @@
  *   second_asks.c          the same asked; commit, drop
  *   second_batches.c       the items of a batch
  *   second_audits.c        set-up, draw, judge, cause, the host's proof
+ *   second_pools.c         pooled replies: judged, and made by the host
  *   second_plans.c         positions, sheet
  *   second_times.c         the calendar, windows, wait
  */
@@ -63,7 +64,7 @@ uint64_t card_fault(const uint8_t *card, size_t length);
 
 /* ---- second_roles.c ---- */
 
-/* Whether a role may make a change, in one step or asked; commit or drop; draw, judge and ask the cause. */
+/* Whether a role may make a change, in one step or asked; commit or drop; draw, judge, singly or a pool, and ask the cause. */
 int may_change(uint64_t role, enum edit_kind kind);
 int may_settle(uint64_t role);
 int may_audit(uint64_t role);

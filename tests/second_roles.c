@@ -14,7 +14,7 @@ int may_settle(uint64_t role)
     return role == PLANNER;
 }
 
-/* "role 3, manager, draw, judge and ask the cause" */
+/* "role 3, manager, draw, judge and ask the cause"; a pooled reply is "judged by roles 2 and 3" */
 int may_audit(uint64_t role)
 {
     return role == PLANNER || role == MANAGER;

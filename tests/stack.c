@@ -4,6 +4,7 @@
 
 #include "files.h"
 #include "groups.h"
+#include "pooled.h"
 
 #include <pthread.h>
 #include <stdlib.h>
@@ -68,10 +69,28 @@ static void stack_of_calls(uint64_t version)
     file_end(&file);
 }
 
+/* Of as many files as a pool may have. */
+static void stack_of_pools(void)
+{
+    struct file files[LEGBARO_MOST_POOLED];
+    const struct file *pooled[LEGBARO_MOST_POOLED];
+    struct buffer master = buffer_blank(LEGBARO_MASTER_BYTES);
+    for (size_t e = 0; e < LEGBARO_MOST_POOLED; e++) {
+        files[e] = pool_file(&master, LAST_VERSION);
+        pooled[e] = &files[e];
+    }
+    expect_small(pooling_call(pooled, LEGBARO_MOST_POOLED));
+    expect_small(pool_call(pooled, LEGBARO_MOST_POOLED));
+    for (size_t e = 0; e < LEGBARO_MOST_POOLED; e++)
+        file_end(&files[e]);
+    buffer_free(&master);
+}
+
 void test_stack(void)
 {
     group_begin("each call needs less than 64 KB of stack");
     for (uint64_t version = FIRST_VERSION; version <= LAST_VERSION; version++)
         stack_of_calls(version);
+    stack_of_pools();
     group_end();
 }

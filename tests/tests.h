@@ -47,6 +47,9 @@ void test_silence(void);
 /* Why a reply is rejected: each cause alone and all sets of them, and no cause exactly where judge accepts. */
 void test_causes(void);
 
+/* Pooled replies: of every number of files, cut and broken in every way, what the xor shows and what not, and lists on several files. */
+void test_pools(void);
+
 /* How many positions to draw of planned rows. */
 void test_plans(void);
 

@@ -60,11 +60,29 @@ static uint64_t audit(void)
     return numbers;
 }
 
+/* Two new files of one block, drawn and proved, and one reply for both. */
+static uint64_t pool(void)
+{
+    static const uint8_t ids[2][LEGBARO_ID_BYTES] = {{4}, {5}};
+    static uint8_t cards[2][LEGBARO_CARD_BYTES], replies[2][LEGBARO_REPLY_BYTES], pooled[LEGBARO_POOLED_BYTES(2)];
+    uint64_t numbers = 0;
+    for (int e = 0; e < 2; e++) {
+        numbers |= legbaro_set_up(LENT(master), LENT(ids[e]), LEGBARO_WITHOUT_MARKS, B, 1, 1, T, 1, LENT(block), LENT(cards[e]), LENT(table),
+                                  LENT(totals));
+        numbers |= legbaro_draw(LEGBARO_MANAGER, LENT(master), LENT(cards[e]), LENT(message), LENT(plan), 2026, 11, 16, 0);
+        numbers |= legbaro_prove(LENT(message), LENT(block), marks, 0, LENT(table), LENT(replies[e]), LENT(totals));
+    }
+    numbers |= legbaro_pool(replies[0], sizeof replies, LENT(pooled));
+    numbers |= legbaro_judge_pool(LEGBARO_MANAGER, LENT(master), cards[0], sizeof cards, LENT(pooled));
+    return numbers;
+}
+
 int main(void)
 {
     uint64_t numbers = changes();
     numbers |= asks();
     numbers |= audit();
+    numbers |= pool();
     numbers |= LEGBARO_CODE(legbaro_positions(R, D, D - 1));
     numbers |= legbaro_sheet(B, D, R, T, D - 1, 1, LENT(sheet));
     return numbers == LEGBARO_OK ? 0 : 1;

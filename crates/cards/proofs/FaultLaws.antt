@@ -1,8 +1,8 @@
 -- The codes of a card's checks: from the tests, back to the tests, and in the ladders of the calls. Assumes nothing.
 --   head-code, card-code, card-refused, card-of   the codes of the head and of the card from their tests, and of the card from the head's
 --   CardFine, card-fine                           what a card of code 0 has; card-held: the limits of its numbers in the program
---   head-read, card-read                          it has the bytes that reading asks for
---   card-version, after-room, turned-room         its version is one that there is, and a card of its version can be written over it
+--   head-long, readable, head-read, card-read     it has the bytes that reading asks for
+--   card-version, head-room, turned-over, after-room, turned-room    its version is one that there is, and a card of its version can be written over it
 --   card-rungs                                    the first three rungs of a call's ladder as one code
 use Prim.Native.Nat.{ℕ, _+_, _≤_, _<_}
 use native.Mathlib.Omega.{arith}
@@ -49,13 +49,13 @@ module _ (xs : List ℕ) where
         ap (λ (t : Bool). cond t 0 3) (sym f ∙ ap cardFits k) ∙ done (headFault xs) (cond (cardFits (readCard xs)) 0 3) (headFault xs) n e z ∙ sym stages
 
   -- what reading asks for
-  head-long : cardHead xs ≡ true → length xs ≡ 2 + cardLength (getD xs 2 0)
+  pub head-long : cardHead xs ≡ true → length xs ≡ 2 + cardLength (getD xs 2 0)
   unfolding cardHead
   head-long h =
       eqb-true (length xs) (2 + cardLength (getD xs 2 0))
       (both (headKnown (cardLength (getD xs 2 0)) xs) (eqb (length xs) (2 + cardLength (getD xs 2 0))) h .1)
 
-  readable : cardHead xs ≡ true → (43 ≤ length xs) × (getD xs 2 0 ≡ 3 → 63 ≤ length xs)
+  pub readable : cardHead xs ≡ true → (43 ≤ length xs) × (getD xs 2 0 ≡ 3 → 63 ≤ length xs)
   readable h = (
     omega (arith, head-long h, length-least (getD xs 2 0)),
     λ three. omega (arith, head-long h, length-three (getD xs 2 0) three),
@@ -80,34 +80,46 @@ module _ (xs : List ℕ) where
   pub card-read : cardFault xs ≡ 0 → (43 ≤ length xs) × (getD xs 2 0 ≡ 3 → 63 ≤ length xs)
   card-read h = readable (card-fine h .head)
 
-  -- the numbers that the program reads from a card of code 0
+  -- what the program reads from a card whose head fits
+  module _ (c : DC.Card) (e : cardOf c ≡ readCard xs) (h : cardHead xs ≡ true) where
+    borne : c .version ≡ getD xs 2 0
+    unfolding cardOf readCard
+    borne = ap (λ (k : Card). k .version) e
+
+    head-known : versionFits (c .version) ≡ true
+    unfolding cardHead
+    head-known =
+        ap versionFits borne
+        ∙ head-version (cardLength (getD xs 2 0)) xs
+        (both (headKnown (cardLength (getD xs 2 0)) xs) (eqb (length xs) (2 + cardLength (getD xs 2 0))) h .0)
+
+    -- what writing asks for, of a card of the same version
+    pub head-room : (after : DC.Card) → after .version ≡ c .version → (length xs ≡ 2 + cardLength (after .version)) × (after .version < 256)
+    head-room after same = (
+      head-long h ∙ ap (λ (v : ℕ). 2 + cardLength v) (sym borne ∙ sym same),
+      rw same (version-small (c .version) head-known),
+    )
+
+    pub turned-over : (after : DC.Card) (next o : ℕ) → cardOf after ≡ turnedCard (cardOf c) next o
+        → (length xs ≡ 2 + cardLength (after .version)) × (after .version < 256)
+    unfolding cardOf turnedCard
+    turned-over after next o t = head-room after (ap (λ (k : Card). k .version) t)
+
+  -- and from a card of code 0
   module _ (c : DC.Card) (e : cardOf c ≡ readCard xs) (h : cardFault xs ≡ 0) where
     pub card-held : Limits (c .«block_bytes») (c .rows) (c .positions) (c .tokens) (c .blocks) (c .counter) (c .next) (c .«open_token»)
     unfolding cardOf
     card-held = card-limits (cardOf c) (ap cardFits e ∙ card-fine h .fits)
 
-    borne : c .version ≡ getD xs 2 0
-    unfolding cardOf readCard
-    borne = ap (λ (k : Card). k .version) e
-
     pub card-version : versionFits (c .version) ≡ true
-    unfolding cardHead
-    card-version =
-        ap versionFits borne
-        ∙ head-version (cardLength (getD xs 2 0)) xs
-        (both (headKnown (cardLength (getD xs 2 0)) xs) (eqb (length xs) (2 + cardLength (getD xs 2 0))) (card-fine h .head) .0)
+    card-version = head-known c e (card-fine h .head)
 
-    -- what writing asks for, of a card of the same version
     pub after-room : (after : DC.Card) → after .version ≡ c .version → (length xs ≡ 2 + cardLength (after .version)) × (after .version < 256)
-    after-room after same = (
-      head-long (card-fine h .head) ∙ ap (λ (v : ℕ). 2 + cardLength v) (sym borne ∙ sym same),
-      rw same (version-small (c .version) card-version),
-    )
+    after-room = head-room c e (card-fine h .head)
 
     pub turned-room : (after : DC.Card) (next o : ℕ) → cardOf after ≡ turnedCard (cardOf c) next o
         → (length xs ≡ 2 + cardLength (after .version)) × (after .version < 256)
-    unfolding cardOf turnedCard
-    turned-room after next o t = after-room after (ap (λ (k : Card). k .version) t)
+    turned-room = turned-over c e (card-fine h .head)
 
 -- the first three rungs of a ladder as one code: a is what the first asks of other buffers
 pub card-rungs : (a : Bool) (xs : List ℕ) (rest : List (Bool × ℕ))

@@ -57,7 +57,7 @@ pub fn sized(s: &[u8]) -> bool
 }
 
 // Whether a card of at least three bytes bears a version that there is, and has the length field and the size of that version.
-fn head_fits(s: &[u8]) -> bool
+pub fn head_fits(s: &[u8]) -> bool
     requires { ⌜ 3 ≤ length (now s) ⌝ }
     ensures { λ r. ⌜ r ≡ S.cardHead (now (s .entry)) ⌝ }
 {

@@ -3,6 +3,7 @@
 --   Lent, judge-held                                   what one that is not has
 --   judge-kept, judge-done                             what judge answers and leaves
 --   cause-kept, cause-done                             what cause answers
+--   not-open, is-open, open-token                      what the sealed bytes of a record open to
 --   record-head, record-number                         what the record in a reply begins with, and a number in it
 --   not-held, not-equal, all-equal                     the cause that the sealed bytes give
 --   cause-of                                           the cause of a reply from its tests
@@ -25,7 +26,7 @@ use Rattle.scheme.specs.Ladder.{first, ifZero}
 use Rattle.scheme.specs.Records as R
 use Rattle.scheme.specs.Records.{headFits, nonceBytes, readCard, cardBytes}
 use Rattle.scheme.specs.Tokens.{keyK}
-use Rattle.scheme.specs.Table.{bodyIn}
+use Rattle.scheme.specs.Table.{there, value, bodyIn}
 use Rattle.scheme.specs.Judging as J
 use Rattle.scheme.specs.Calls.{turnedCard, judgeFault, judgeCode, judgeCard, causeCode}
 use Rattle.standard.specs.Standard.{standard}
@@ -91,6 +92,46 @@ module _ (master card : List ℕ) where
     cause-done c r z k p =
         p ∙ ap (λ (x : R.Card). 256 * J.causeNumber (J.cause standard master x reply)) k ∙ done _ _ (judgeFault standard master card) n e z
 
+-- a record of 63 bytes, from what the calls that open it ensure
+module _ (rec : List ℕ) (long : length rec ≡ 63) (key : List ℕ) (ctr i : ℕ) where
+  abbrev tag-holds : Bool
+  tag-holds = opens (keyWords key) (nonceBytes ctr i) (part 0 15 rec) (part 15 32 rec) (part 47 16 rec)
+
+  abbrev token : List ℕ
+  token = cipher (keyWords key) 1 (nonceBytes ctr i) (part 15 32 rec)
+
+  body-is : bodyIn standard key ctr i rec ≡ cond tag-holds (some token) none
+  unfolding bodyIn
+  body-is =
+      ap (λ (x : List ℕ). opened (keyWords key) (nonceBytes ctr i) (part 0 15 rec) x)
+      (sym (take-all 48 (drop 15 rec) (omega (arith, length-drop 15 rec))))
+      ∙ opened-part (keyWords key) (nonceBytes ctr i) (part 0 15 rec) rec 15 (omega arith)
+
+  module _ (words nonce : List ℕ) (w : words ≡ keyWords key) (v : nonce ≡ nonceBytes ctr i) (holds : Bool)
+      (o : holds ≡ opens words nonce (part 0 15 rec) (part 15 32 rec) (part 47 16 rec)) where
+    tag-is : holds ≡ tag-holds
+    tag-is = o ∙ ap₂ (λ (u n : List ℕ). opens u n (part 0 15 rec) (part 15 32 rec) (part 47 16 rec)) w v
+
+    pub not-open : holds ≡ false → false ≡ there (bodyIn standard key ctr i rec)
+    not-open h = rw (body-is, sym tag-is ∙ h)
+
+    module _ (held : holds ≡ true) (x y : List ℕ) (a : x ≡ put 0 (part 15 32 rec) (replicate 32 0)) (d : y ≡ cipher words 1 nonce x) where
+      copied : x ≡ part 15 32 rec
+      copied = a ∙ put-whole (part 15 32 rec) (replicate 32 0) (length-part 15 32 rec (omega arith))
+
+      pub is-open : true ≡ there (bodyIn standard key ctr i rec)
+      is-open = rw (body-is, sym tag-is ∙ held)
+
+      pub open-token : y ≡ value (bodyIn standard key ctr i rec)
+      open-token =
+          let inside : token ≡ value (bodyIn standard key ctr i rec) = rw (body-is, sym tag-is ∙ held) in
+          d ∙ ap₂ (λ (u n : List ℕ). cipher u 1 n x) w v ∙ ap (cipher (keyWords key) 1 (nonceBytes ctr i)) copied ∙ inside
+
+-- the file and the token that a reply and its record name are the card's
+abbrev names : DC.Card → List ℕ → Bool
+names c reply =
+    same (part 3 8 reply) (c .id) && eqb (ofBe (part 11 4 reply)) (c .«open_token») && eqb (ofBe (part 11 4 (drop 47 reply))) (c .«open_token»)
+
 -- the record in a reply of 110 bytes
 module _ (reply : List ℕ) (long : length reply ≡ 110) where
   pub record-head : part 47 63 reply ≡ drop 47 reply
@@ -99,68 +140,39 @@ module _ (reply : List ℕ) (long : length reply ≡ 110) where
   pub record-number : (at k : ℕ) → part at k (drop 47 reply) ≡ part (47 + at) k reply
   record-number at k = ap (take k) (drop-drop at 47 reply)
 
-  module _ (key : List ℕ) (ctr i : ℕ) where
-    abbrev pub tag-holds : Bool
-    tag-holds = opens (keyWords key) (nonceBytes ctr i) (part 47 15 reply) (part 62 32 reply) (part 94 16 reply)
+  pub names-are : (c : DC.Card) (i : ℕ) → i ≡ ofBe (part 11 4 reply)
+      → names c reply ≡ (same (part 3 8 reply) (c .id) && eqb i (c .«open_token») && eqb (ofBe (part 11 4 (part 47 63 reply))) (c .«open_token»))
+  names-are c i e = rw (e, record-head)
 
-    abbrev pub token : List ℕ
-    token = cipher (keyWords key) 1 (nonceBytes ctr i) (part 62 32 reply)
+  -- the cause that its sealed bytes give, from what they open to
+  module _ (key : List ℕ) (ctr i : ℕ) (holds : Bool) (o : holds ≡ there (bodyIn standard key ctr i (part 47 63 reply))) where
+    tag-is-there : there (bodyIn standard key ctr i (drop 47 reply)) ≡ holds
+    tag-is-there = ap (λ (x : List ℕ). there (bodyIn standard key ctr i x)) (sym record-head) ∙ sym o
 
-    record-body : drop 15 (drop 47 reply) ≡ part 62 48 reply
-    record-body =
-        sym (take-all 48 (drop 15 (drop 47 reply)) (omega (arith, length-drop 15 (drop 47 reply), length-drop 47 reply)))
-        ∙ record-number 15 48
-
-    body-is : bodyIn standard key ctr i (drop 47 reply) ≡ cond tag-holds (some token) none
-    unfolding bodyIn
-    body-is =
-        ap (λ (x : List ℕ). opened (keyWords key) (nonceBytes ctr i) (part 47 15 reply) x) record-body
-        ∙ opened-part (keyWords key) (nonceBytes ctr i) (part 47 15 reply) reply 62 (omega arith)
-
-    tag-bad : tag-holds ≡ false → J.badTag ≡ sealedCause key ctr i reply
+    pub not-held : holds ≡ false → J.badTag ≡ sealedCause key ctr i reply
     unfolding first
-    tag-bad h = rw (body-is, h)
+    not-held h = rw (tag-is-there, h)
 
-    digest-other : tag-holds ≡ true → same token (part 15 32 reply) ≡ false → J.otherDigest ≡ sealedCause key ctr i reply
-    unfolding first
-    digest-other h g = rw (body-is, h, g)
+    module _ (held : holds ≡ true) (x : List ℕ) (t : holds ≡ true → x ≡ value (bodyIn standard key ctr i (part 47 63 reply)))
+        (equal : Bool) (g : equal ≡ same x (part 15 32 reply)) where
+      token-is : same (value (bodyIn standard key ctr i (drop 47 reply))) (part 15 32 reply) ≡ equal
+      token-is =
+          ap (λ (u : List ℕ). same (value (bodyIn standard key ctr i u)) (part 15 32 reply)) (sym record-head)
+          ∙ ap (λ (u : List ℕ). same u (part 15 32 reply)) (sym (t held)) ∙ sym g
 
-    reply-sound : tag-holds ≡ true → same token (part 15 32 reply) ≡ true → J.noCause ≡ sealedCause key ctr i reply
-    unfolding first
-    reply-sound h g = rw (body-is, h, g)
+      pub not-equal : equal ≡ false → J.otherDigest ≡ sealedCause key ctr i reply
+      unfolding first
+      not-equal h = rw (tag-is-there, held, token-is, h)
 
-    -- the same, from what the calls ensure
-    module _ (words nonce : List ℕ) (w : words ≡ keyWords key) (v : nonce ≡ nonceBytes ctr i) (holds : Bool)
-        (o : holds ≡ opens words nonce (part 47 15 reply) (part 62 32 reply) (part 94 16 reply)) where
-      tag-is : holds ≡ tag-holds
-      tag-is = o ∙ ap₂ (λ (u n : List ℕ). opens u n (part 47 15 reply) (part 62 32 reply) (part 94 16 reply)) w v
-
-      pub not-held : holds ≡ false → J.badTag ≡ sealedCause key ctr i reply
-      not-held h = tag-bad (sym tag-is ∙ h)
-
-      module _ (held : holds ≡ true) (x y : List ℕ) (a : x ≡ put 0 (part 62 32 reply) (replicate 32 0)) (d : y ≡ cipher words 1 nonce x)
-          (equal : Bool) (g : equal ≡ same y (part 15 32 reply)) where
-        copied : x ≡ part 62 32 reply
-        copied = a ∙ put-whole (part 62 32 reply) (replicate 32 0) (length-part 62 32 reply (omega arith))
-
-        token-is : equal ≡ same token (part 15 32 reply)
-        token-is = g ∙ ap (λ (u : List ℕ). same u (part 15 32 reply)) (d ∙ ap₂ (λ (u n : List ℕ). cipher u 1 n x) w v ∙ ap (cipher (keyWords key) 1 (nonceBytes ctr i)) copied)
-
-        pub not-equal : equal ≡ false → J.otherDigest ≡ sealedCause key ctr i reply
-        not-equal h = digest-other (sym tag-is ∙ held) (sym token-is ∙ h)
-
-        pub all-equal : equal ≡ true → J.noCause ≡ sealedCause key ctr i reply
-        all-equal h = reply-sound (sym tag-is ∙ held) (sym token-is ∙ h)
+      pub all-equal : equal ≡ true → J.noCause ≡ sealedCause key ctr i reply
+      unfolding first
+      all-equal h = rw (tag-is-there, held, token-is, h)
 
 -- the cause of a reply from its tests
 module _ (master : List ℕ) (c : DC.Card) (reply : List ℕ) where
-  abbrev names : Bool
-  names =
-      same (part 3 8 reply) (c .id) && eqb (ofBe (part 11 4 reply)) (c .«open_token») && eqb (ofBe (part 11 4 (drop 47 reply))) (c .«open_token»)
-
   pub cause-of : {b₁ b₂ b₃ b₄ : Bool} {why : J.Cause} → eqb (length reply) 110 ≡ b₁
       → (headFits 108 (c .version) reply && headFits 61 (c .version) (drop 47 reply)) ≡ b₂
-      → names ≡ b₃ → eqb (ofBe (part 3 8 (drop 47 reply))) (c .counter) ≡ b₄
+      → names c reply ≡ b₃ → eqb (ofBe (part 3 8 (drop 47 reply))) (c .counter) ≡ b₄
       → why ≡ cond b₁ (cond b₂ (cond b₃ (cond b₄ (sealedCause (keyK standard master (c .id)) (c .counter) (c .«open_token») reply) J.otherCounter) J.otherToken) J.wrongHeader) J.wrongSize
       → why ≡ J.cause standard master (cardOf c) reply
   unfolding J.cause cardOf first

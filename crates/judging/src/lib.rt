@@ -1,7 +1,7 @@
 // The calls that judge a host's reply, and that say why it is rejected. A call that is turned away leaves every buffer.
 // Every function equals a definition of the scheme's Calls or Judging at the standard primitives. Nothing is assumed.
 ghost use mathlib.Core.Path.{_≡_};
-ghost use mathlib.Core.Bool.{_&&_};
+ghost use mathlib.Core.Bool.{true, _&&_};
 ghost use Prim.Native.Nat.{_≤_};
 ghost use lib.Dec.{eqb};
 ghost use lib.ListN.{length, drop};
@@ -9,6 +9,7 @@ ghost use Rattle.octets.specs.Octets as O;
 ghost use Rattle.octets.specs.Octets.{ofBe, part};
 ghost use Rattle.scheme.specs.Calls as S;
 ghost use Rattle.scheme.specs.Records.{headFits};
+ghost use Rattle.scheme.specs.Table.{there, value, bodyIn};
 ghost use Rattle.scheme.specs.Judging as J;
 ghost use Rattle.standard.specs.Standard.{standard};
 ghost use Rattle.cards.specs.Fields.{cardOf};
@@ -23,6 +24,12 @@ pub enum Reason {
     BadTag,
     OtherDigest,
     Sound,
+}
+
+// What the sealed bytes of a record open to: whether their tag holds, and the token where it does.
+pub struct Body {
+    pub holds: bool,
+    pub token: [u8; 32],
 }
 
 // The place of a cause, from 1; 0 for none.
@@ -60,32 +67,60 @@ fn heads_fit(version: u64, reply: &[u8]) -> bool
     own & its
 }
 
-// Whether a reply of 110 bytes is of a file and a token, which the record in it names too.
-fn names_fit(id: [u8; 8], token: u64, reply: &[u8]) -> bool
-    requires { ⌜ length (now reply) ≡ 110 ⌝ }
-    ensures { λ r. ⌜ r ≡ (O.same (part 3 8 (now (reply .entry))) id && eqb (ofBe (part 11 4 (now (reply .entry)))) token && eqb (ofBe (part 11 4 (drop 47 (now (reply .entry))))) token) ⌝ }
+// Whether the id and the token's number that a reply names are those of a file and a token, and the number in the record beside them too.
+pub fn names_fit(id: [u8; 8], token: u64, named: &[u8], i: u64, rec: &[u8]) -> bool
+    requires { ⌜ (length (now named) ≡ 8) × (length (now rec) ≡ 63) ⌝ }
+    ensures { λ r. ⌜ r ≡ (O.same (now (named .entry)) id && eqb i token && eqb (ofBe (part 11 4 (now (rec .entry)))) token) ⌝ }
 {
-    let file = octets::same(&reply[3..11], &id);
-    let own = octets::be4(reply, 11) as u64;
-    let its = octets::be4(reply, 58) as u64;
-    file & (own == token) & (its == token)
+    let file = octets::same(named, &id);
+    let its = records::be4(rec, 11);
+    file & (i == token) & (its == token)
 }
 
-// The cause that the sealed bytes of a reply of 110 bytes give under the key K: the tag, then the token against the digest. Two blocks of ChaCha20.
+// What the sealed bytes of a record of 63 bytes open to under the key K of its file, at a counter and a token: whether the tag holds, and the token where
+// it does. One block of ChaCha20 for the tag, and where it holds another for the token.
+pub fn opened(key: [u8; 32], counter: u64, token: u64, rec: &[u8]) -> Body
+    requires { ⌜ length (now rec) ≡ 63 ⌝ }
+    ensures { λ r. ⌜ r .holds ≡ there (bodyIn standard key counter token (now (rec .entry))) ⌝ }
+    ensures { λ r. ⌜ (r .holds ≡ true → r .token ≡ value (bodyIn standard key counter token (now (rec .entry)))) ⌝ }
+{
+    let words = chacha20::key_words(&key);
+    let nonce = records::nonce_bytes(counter, counts::Token(token));
+    let mut x = [0u8; 32];
+    let holds = aead::opens_at(words, &nonce, &rec[0..15], rec, 15);
+    if !holds {
+        return Body {
+            holds: false,
+            token: x,
+        };
+    }
+    octets::copy(&mut x, 0, &rec[15..47]);
+    chacha20::cipher(words, 1, &nonce, &mut x);
+    Body {
+        holds: true,
+        token: x,
+    }
+}
+
+// Whether a token is the digest in a reply of 110 bytes.
+fn is_digest(x: [u8; 32], reply: &[u8]) -> bool
+    requires { ⌜ length (now reply) ≡ 110 ⌝ }
+    ensures { λ r. ⌜ r ≡ O.same x (part 15 32 (now (reply .entry))) ⌝ }
+{
+    octets::same(&x, &reply[15..47])
+}
+
+// The cause that the sealed bytes of a reply of 110 bytes give under the key K: the tag, then the token against the digest.
 fn sealed_cause(key: [u8; 32], counter: u64, token: u64, reply: &[u8]) -> Reason
     requires { ⌜ length (now reply) ≡ 110 ⌝ }
     ensures { λ r. ⌜ causeOf r ≡ sealedCause key counter token (now (reply .entry)) ⌝ }
 {
-    let words = chacha20::key_words(&key);
-    let nonce = records::nonce_bytes(counter, counts::Token(token));
-    let holds = aead::opens_at(words, &nonce, &reply[47..62], reply, 62);
-    if !holds {
+    let body = opened(key, counter, token, &reply[47..110]);
+    if !body.holds {
         return Reason::BadTag;
     }
-    let mut x = [0u8; 32];
-    octets::copy(&mut x, 0, &reply[62..94]);
-    chacha20::cipher(words, 1, &nonce, &mut x);
-    let equal = octets::same(&x, &reply[15..47]);
+    let x = body.token;
+    let equal = is_digest(x, reply);
     if !equal {
         return Reason::OtherDigest;
     }
@@ -105,7 +140,8 @@ fn reply_cause(master: &[u8], c: cards::Card, reply: &[u8]) -> Reason
         return Reason::WrongHeader;
     }
     let id = c.id;
-    let names = names_fit(id, c.open_token, reply);
+    let i = records::be4(reply, 11);
+    let names = names_fit(id, c.open_token, &reply[3..11], i, &reply[47..110]);
     if !names {
         return Reason::OtherToken;
     }

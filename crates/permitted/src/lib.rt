@@ -7,6 +7,7 @@ ghost use Rattle.scheme.specs.Roles as R;
 ghost use Rattle.scheme.specs.Changes as S;
 ghost use Rattle.scheme.specs.Asks as Q;
 ghost use Rattle.scheme.specs.Calls as C;
+ghost use Rattle.scheme.specs.Pools as P;
 ghost use Rattle.standard.specs.Standard.{standard};
 ghost use Rattle.roles.specs.Deeds.{deedOf};
 ghost use Rattle.changes.specs.Edits.{editOf};
@@ -138,4 +139,15 @@ pub fn cause(role: u64, master: &[u8], card: &[u8], reply: &[u8]) -> u64
         return 22;
     }
     judging::cause(master, card, reply)
+}
+
+// A pooled judgement, under a role: the verdict or a code, and the cards.
+pub fn judge_pool(role: u64, master: &[u8], cards: &mut [u8], reply: &[u8]) -> u64
+    ensures { λ r. ⌜ r ≡ R.under role R.toPool (P.poolCode standard (now (master .entry)) (now (cards .entry)) (now (reply .entry))) 22 ⌝ }
+    ensures { λ _. ⌜ now (cards .exit) ≡ R.under role R.toPool (P.poolCards standard (now (master .entry)) (now (cards .entry)) (now (reply .entry))) (now (cards .entry)) ⌝ }
+{
+    if !roles::permits(role, roles::Deed::Pool) {
+        return 22;
+    }
+    pools::judge_pool(master, cards, reply)
 }

@@ -2,7 +2,7 @@
 --   deedOf deed   the deed of the scheme, and so the roles that may
 use Rattle.scheme.specs.Roles as S
 use Rattle.roles.specs.declared.Deed.{Deed}
-use Rattle.roles.specs.declared.Deed.the-variants.{Update, Delete, Append, Load, Batch, Commit, Drop, Draw, Judge, Cause}
+use Rattle.roles.specs.declared.Deed.the-variants.{Update, Delete, Append, Load, Batch, Commit, Drop, Draw, Judge, Cause, Pool}
 
 abbrev pub deedOf : Deed → S.Deed
 deedOf Update = S.toUpdate
@@ -15,3 +15,4 @@ deedOf Drop = S.toDrop
 deedOf Draw = S.toDraw
 deedOf Judge = S.toJudge
 deedOf Cause = S.toCause
+deedOf Pool = S.toPool

@@ -17,6 +17,7 @@ pub enum Deed {
     Draw,
     Judge,
     Cause,
+    Pool,
 }
 
 // The roles.
@@ -40,8 +41,8 @@ fn is_either(role: u64, a: u64, b: u64) -> bool
     (role == a) | (role == b)
 }
 
-// Whether a role may: the surveyor appends and loads, the planner does everything, the manager draws, judges and asks the cause. No other role may do
-// anything.
+// Whether a role may: the surveyor appends and loads, the planner does everything, the manager draws, judges, a chain in one reply
+// too, and asks the cause. No other role may do anything.
 pub fn permits(role: u64, deed: Deed) -> bool
     ensures { λ r. ⌜ r ≡ S.permits role (deedOf deed) ⌝ }
 {
@@ -56,5 +57,6 @@ pub fn permits(role: u64, deed: Deed) -> bool
         Deed::Draw => is_either(role, PLANNER, MANAGER),
         Deed::Judge => is_either(role, PLANNER, MANAGER),
         Deed::Cause => is_either(role, PLANNER, MANAGER),
+        Deed::Pool => is_either(role, PLANNER, MANAGER),
     }
 }

@@ -3,7 +3,8 @@
 --   card-changed, good-changed      after a change in one step; card-asked, table-asked, held-asked, good-asked: while it is pending
 --   card-committed .. good-dropped  after its commit and its drop
 --   good-turned .. good-drawn       after a draw or a judgement
---   drawn-left, judged-idle, settled-pending   what an accepted call finds
+--   drawn-left, judged-idle, pooled-idle, settled-pending   what an accepted call finds
+--   own-told                        the book's card is as long as its length field tells
 use Prim.Native.Nat.{ℕ, _+_, _*_, _-_, _≤_, _<_}
 use native.Mathlib.Omega.{arith}
 use mathlib.Core.Path.{_≡_, refl, sym, ap, _∙_, subst}
@@ -13,17 +14,20 @@ use mathlib.Core.Bool.{true, _||_, or-true, false≢true}
 use borrow.Author.Tests.{eq-eqb}
 use lib.ListN.{length, length-append}
 use lib.Dec.{eqb}
+use Rattle.octets.specs.Octets.{ofBe, part}
 use Rattle.scheme.specs.Lists.{joined, recordsFrom}
 use Rattle.scheme.specs.Primitives.{Primitives}
 use Rattle.scheme.specs.Records.{Card, cardBytes, recordAt}
 use Rattle.scheme.specs.Changes.{askedCard, committedCard, droppedCard, changedCard}
 use Rattle.scheme.specs.Calls.{turnedCard, Moment, drawCode, judgeFault}
 use Rattle.scheme.specs.Asks.{settleCode}
+use Rattle.scheme.specs.Pools.{poolFault, pooled, Told}
 use Rattle.scheme.specs.Book.{Book, joinedBlocks, bookCard, withAsk, committed, dropped, withBlocks, withTurn, freshToken, freshRecord, bookTable}
 use Rattle.scheme.proofs.LimitLaws.{Limits}
 use Rattle.scheme.proofs.RecordLaws.{record-at}
 use Rattle.scheme.proofs.TableLaws.{All, joined-append, records-same}
 use Rattle.scheme.proofs.MarkLaws.{Formed}
+use Rattle.scheme.proofs.PoolLaws.{card-told, own-order}
 use Rattle.scheme.proofs.CallLaws.{draw-has, judge-has, settle-has}
 use Rattle.scheme.proofs.BookLaws.{Pending, Asked, Good, none-asked, none-open, some-asked, back, fresh-long, table-first}
 
@@ -276,6 +280,15 @@ module _ (P : Primitives) where
     pub judged-idle : judgeFault P (b .key) (cardBytes (bookCard b)) ≡ 0 → b .asked ≡ none
     unfolding bookCard
     judged-idle e = none-open P b g (subst (λ (c : Card). 1 ≤ c .open′) (back P b g) (judge-has P (b .key) (cardBytes (bookCard b)) e .some-open))
+
+    pub own-told : length (cardBytes (bookCard b)) ≡ 2 + ofBe (part 0 2 (cardBytes (bookCard b)))
+    own-told = card-told (bookCard b) (unfold bookCard in g .id8)
+
+    pub pooled-idle : (master : List ℕ) (before behind : List (List ℕ)) → Told before → Told behind → poolFault master (pooled before (cardBytes (bookCard b)) behind) ≡ 0
+        → b .asked ≡ none
+    unfolding bookCard
+    pooled-idle master before behind told₁ told₂ e =
+        none-open P b g (subst (λ (c : Card). 1 ≤ c .open′) (back P b g) (own-order before behind (cardBytes (bookCard b)) told₁ own-told told₂ master e .1))
 
     pub settled-pending : settleCode (cardBytes (bookCard b)) ≡ 0 → 1 ≤ (bookCard b) .pending
     settled-pending e = subst (λ (c : Card). 1 ≤ c .pending) (back P b g) (settle-has (cardBytes (bookCard b)) e .1)

@@ -1,13 +1,14 @@
 -- Cards in order, which pass 1, 2 and 3: they come back from their bytes, and calls leave them in order. Assumes nothing.
+--   sized-id, head-sized           a card of either size has an id; one whose head is right has the size of its version
 --   InOrder, read-order            a card in order; one whose bytes pass the tests is
 --   order-back                     it comes back from its bytes
 --   asked-order, changed-order     the card while a change is pending, and after one
---   committed-order, dropped-order, turned-order   after a commit, a drop, a draw or a judgement
-use Prim.Native.Nat.{ℕ, _+_, _-_, _≤_, _<_}
+--   committed-order, dropped-order, turned-order, closed-order   after a commit, a drop, a draw or a judgement
+use Prim.Native.Nat.{ℕ, zero, suc, _+_, _-_, _≤_, _<_}
 use native.Mathlib.Omega.{arith}
 use mathlib.Core.Path.{_≡_, refl, sym, _∙_}
 use mathlib.Core.List.{List}
-use mathlib.Core.Bool.{Bool, true, false, _&&_, _||_, false≢true}
+use mathlib.Core.Bool.{Bool, true, false, cond, _&&_, _||_, false≢true}
 use borrow.Author.Tests.{eqb-true}
 use lib.ListN.{length, getD}
 use lib.Dec.{eqb}
@@ -28,7 +29,7 @@ pub record InOrder (c : Card) : Type 0 where
   pub plain : eqb (c .version) 3 ≡ false → (c .last ≡ c .ctr) × (c .pending ≡ 0) × (c .count ≡ 0)
 
 -- a card of either size has an id
-sized-id : (card : List ℕ) → cardSized card ≡ true → length ((readCard card) .id) ≡ 8
+pub sized-id : (card : List ℕ) → cardSized card ≡ true → length ((readCard card) .id) ≡ 8
 unfolding cardSized readCard
 sized-id card h = length-part 3 8 card (go (eqb (length card) 43) refl h)
   where
@@ -43,6 +44,17 @@ head-version card h =
     let v = getD card 2 0 in
     let p = both (eqb (ofBe (part 0 2 card)) (cardLength v) && versionFits v) (eqb (length card) (2 + cardLength v)) h in
     both (eqb (ofBe (part 0 2 card)) (cardLength v)) (versionFits v) (p .0) .1
+
+pub head-sized : (card : List ℕ) → cardHead card ≡ true → (cardSized card ≡ true) × (length card ≡ 2 + cardLength (getD card 2 0))
+unfolding cardHead cardSized cardLength
+head-sized card h =
+    let v = getD card 2 0 in
+    let l = eqb-true (length card) (2 + cardLength v) (both (headKnown (cardLength v) card) (eqb (length card) (2 + cardLength v)) h .1) in
+    (rw l (go (eqb v 3)), l)
+  where
+    go : (b : Bool) → (eqb (2 + cond b 61 41) 43 || eqb (2 + cond b 61 41) 63) ≡ true
+    go true = refl
+    go false = refl
 
 pub read-order : (card : List ℕ) → cardSized card ≡ true → cardHead card ≡ true → cardFits (readCard card) ≡ true → InOrder (readCard card)
 read-order card s h f = record { id8 = sized-id card s; ver = head-version card h; fits = f; plain = read-plain card }
@@ -139,3 +151,11 @@ module _ (c : Card) (o : InOrder c) where
         nextmost = high;
         last = last;
       }
+
+  -- a card with a token open has nothing pending, so its draw may be closed
+  pub closed-order : 1 ≤ c .open′ → InOrder (turnedCard c (c .next) 0)
+  closed-order h = turned-order (c .next) 0 (idle (c .pending) refl) (limits .next1) (limits .nextmost) refl
+    where
+      idle : (n : ℕ) → c .pending ≡ n → c .pending ≡ 0
+      idle zero e = e
+      idle (suc n) e = absurd (omega (arith, h, asks .busy (omega arith) .3))

@@ -1,5 +1,5 @@
 -- #108: "Every ask takes the last issued plus 1, even after a drop, because a nonce may seal only once". Of any list of calls on any card and tables, whatever
--- masters and bytes are lent. Assumes nothing.
+-- masters and bytes are lent; the cards of a pooled judgement are as long as their length fields tell. Assumes nothing.
 --   sealed-under   an accepted change seals every unused record under the last issued plus 1 and its own number, and an ask writes what the change would
 --   seals-rise     the counters that accepted changes and asks take rise, from the last issued on the card at the start
 --   seals-once     after an accepted set-up no pair of counter and token number seals twice, the records of the set-up included
@@ -15,7 +15,7 @@ use lib.ListN.{length, length-append}
 use lib.Dec.{eqb}
 use Rattle.octets.specs.Octets.{ofBe, part}
 use Rattle.scheme.specs.Ladder.{ifZero}
-use Rattle.scheme.specs.Lists.{pieces, recordsFrom}
+use Rattle.scheme.specs.Lists.{joined, pieces, recordsFrom}
 use Rattle.scheme.specs.Primitives.{Primitives}
 use Rattle.scheme.specs.Marks.{live, alike}
 use Rattle.scheme.specs.Records.{Card, cardBytes, readCard, recordAt}
@@ -24,14 +24,16 @@ use Rattle.scheme.specs.Table.{sealedRecord, resealedRecord}
 use Rattle.scheme.specs.Changes.{Edit, askedCard, committedCard, droppedCard, changedCard, changeCode, changeCard, changeTable}
 use Rattle.scheme.specs.Calls.{setUpCode, setUpCard, setUpTable, turnedCard, Moment, drawCode, drawCard, judgeFault, judgeCard}
 use Rattle.scheme.specs.Asks.{settleCode, commitCard, dropCard, askCode, askCard}
+use Rattle.scheme.specs.Pools.{cut, closedAll, poolFault, poolCards, pooled, Told}
 use Rattle.scheme.specs.Roles.{permits, under}
-use Rattle.scheme.specs.Runs.{Call, change, ask, commit, drop, draw, judge, deedOf, Lent, callCard, lentCode, lentCard, lentTable, lentAsked}
+use Rattle.scheme.specs.Runs.{Call, change, ask, commit, drop, draw, judge, pool, deedOf, Lent, callCard, lentCode, lentCard, lentTable, lentAsked}
 use Rattle.scheme.specs.Book.{started, bookCard}
-use Rattle.scheme.specs.Nonces.{Rising, noncesFrom, unusedNonces, Missing, Once, takes, writes, taken, sealed, counters, seals}
+use Rattle.scheme.specs.Nonces.{Rising, noncesFrom, unusedNonces, Missing, Once, OwnLength, OthersIn, OthersTold, PlacedIn, Placed, takes, writes, taken, sealed, counters, seals}
 use Rattle.scheme.proofs.TokenLaws.{length-digest}
 use Rattle.scheme.proofs.RecordLaws.{sealed-ctr, sealed-i, record-long, record-at}
-use Rattle.scheme.proofs.LimitLaws.{card-limits, card-asks}
-use Rattle.scheme.proofs.CardLaws.{InOrder, order-back, committed-order, dropped-order, turned-order}
+use Rattle.scheme.proofs.LimitLaws.{card-limits}
+use Rattle.scheme.proofs.CardLaws.{InOrder, order-back, committed-order, dropped-order, turned-order, closed-order}
+use Rattle.scheme.proofs.PoolLaws.{card-told, own-part, own-order, own-closed}
 use Rattle.scheme.proofs.CallLaws.{set-up-has, change-has, draw-has, judge-has, settle-has}
 use Rattle.scheme.proofs.ResealLaws.{record-changed, card-changed}
 use Rattle.scheme.proofs.BookLaws.{back}
@@ -79,10 +81,14 @@ unfolding pairsFrom
 once-more k zero i qs a o = o
 once-more k (suc m) i qs a o = (missing-more k m (i + 1) i qs (omega arith) a, once-more k m (i + 1) qs a o)
 
--- a card written or left, neither with another last issued
-same-last : (n : ℕ) (c : Card) (card : List ℕ) → (n ≡ 0 → InOrder c) → c .last ≡ (readCard card) .last → (readCard (ifZero n (cardBytes c) card)) .last ≡ (readCard card) .last
-same-last zero c card o e = ap (λ (x : Card). x .last) (order-back c (o refl)) ∙ e
-same-last (suc n) c card o e = refl
+-- a card written or left: no other last issued, and as long as its length field tells where it was
+record Same (card card′ : List ℕ) : Type 0 where
+  last : (readCard card′) .last ≡ (readCard card) .last
+  own : OwnLength card → OwnLength card′
+
+same-last : (n : ℕ) (c : Card) (card : List ℕ) → (n ≡ 0 → InOrder c) → c .last ≡ (readCard card) .last → Same card (ifZero n (cardBytes c) card)
+same-last zero c card o e = record { last = ap (λ (x : Card). x .last) (order-back c (o refl)) ∙ e; own = λ l. card-told c (o refl .id8) }
+same-last (suc n) c card o e = record { last = refl; own = λ l. l }
 
 nothing : {A : Type 0} (n : ℕ) → ifZero {A = List A} n [] [] ≡ []
 nothing zero = refl
@@ -119,32 +125,34 @@ module _ (P : Primitives) where
     none-taken : taken P x card table ≡ []
     none-sealed : sealed P x card table ≡ []
     stays : (readCard (lentCard P x card table)) .last ≡ (readCard card) .last
+    own : OwnLength card → OwnLength (lentCard P x card table)
 
   record Steps (x : Lent) (card table : List ℕ) (k : ℕ) : Type 0 where
     one-taken : taken P x card table ≡ k ∷ []
     all-under : sealed P x card table ≡ pairsFrom k ((readCard card) .t + 1 - (readCard card) .next) ((readCard card) .next)
     above : (readCard card) .last < k
     rises : (readCard (lentCard P x card table)) .last ≡ k
+    own : OwnLength card → OwnLength (lentCard P x card table)
 
   module _ (role : ℕ) (master card table : List ℕ) where
-    still : (x : Call) → permits role (deedOf x) ≡ true → (readCard (callCard P master x card table)) .last ≡ (readCard card) .last → takes P master x card table ≡ [] → writes P master x card table ≡ []
+    still : (x : Call) → permits role (deedOf x) ≡ true → Same card (callCard P master x card table) → takes P master x card table ≡ [] → writes P master x card table ≡ []
         → Still (record { role = role; master = master; call = x }) card table
     unfolding taken sealed under
     still x may e f g =
         let n = lentCode P (record { role = role; master = master; call = x }) card table in
-        record { none-taken = rw f (nothing n); none-sealed = rw g (nothing n); stays = rw may e }
+        record { none-taken = rw f (nothing n); none-sealed = rw g (nothing n); stays = rw may (e .last); own = rw may (e .own) }
 
-    last-commit : (readCard (commitCard card)) .last ≡ (readCard card) .last
+    last-commit : Same card (commitCard card)
     unfolding commitCard
     last-commit =
         same-last (settleCode card) (committedCard (readCard card)) card
         (λ e. let h = settle-has card e in committed-order (readCard card) (h .0) (h .1)) (unfold committedCard in refl)
 
-    last-drop : (readCard (dropCard card)) .last ≡ (readCard card) .last
+    last-drop : Same card (dropCard card)
     unfolding dropCard
     last-drop = same-last (settleCode card) (droppedCard (readCard card)) card (λ e. dropped-order (readCard card) (settle-has card e .0)) (unfold droppedCard in refl)
 
-    last-draw : (message plan : List ℕ) (now : Moment) → (readCard (drawCard P master card message plan now)) .last ≡ (readCard card) .last
+    last-draw : (message plan : List ℕ) (now : Moment) → Same card (drawCard P master card message plan now)
     unfolding drawCard
     last-draw message plan now = same-last (drawCode P master card message plan now) (turnedCard c (c .next + 1) (c .next)) card drawn (unfold turnedCard in refl)
       where
@@ -157,23 +165,34 @@ module _ (P : Primitives) where
             let o : eqb (c .next) (c .next + 1 - 1) ≡ true = eq-eqb (c .next) (c .next + 1 - 1) (omega arith) in
             turned-order c (h .order) (c .next + 1) (c .next) (h .idle) (omega arith) (omega (arith, h .left)) (rw o (or-true (eqb (c .next) 0)))
 
-    last-judge : (reply : List ℕ) → (readCard (judgeCard P master card reply)) .last ≡ (readCard card) .last
+    last-judge : (reply : List ℕ) → Same card (judgeCard P master card reply)
     unfolding judgeCard
-    last-judge reply = same-last (judgeFault P master card) (turnedCard c (c .next) 0) card judged (unfold turnedCard in refl)
+    last-judge reply =
+        let c = readCard card in
+        same-last (judgeFault P master card) (turnedCard c (c .next) 0) card
+        (λ e. let h = judge-has P master card e in closed-order c (h .order) (h .some-open)) (unfold turnedCard in refl)
+
+    -- of a pooled judgement, what stands in the card's place
+    last-pool : (before behind : List (List ℕ)) (reply : List ℕ) → Told before → OwnLength card → Told behind → Same card (callCard P master (pool before behind reply) card table)
+    unfolding poolCards
+    last-pool before behind reply t long u = go (poolFault master (pooled before card behind)) refl
       where
-        c : Card
-        c = readCard card
+        go : (n : ℕ) → poolFault master (pooled before card behind) ≡ n
+            → Same card (part (length (joined before)) (length card) (ifZero n (closedAll (cut (pooled before card behind))) (pooled before card behind)))
+        go zero e =
+            let c = readCard card in
+            let o = own-order before behind card t long u master e in
+            rw (own-closed before behind card t long u master e)
+            (same-last 0 (turnedCard c (c .next) 0) card (λ z. closed-order c (o .0) (o .1)) (unfold turnedCard in refl))
+        go (suc n) e = rw (own-part before behind card) (record { last = refl; own = λ l. l })
 
-        -- a card with a token open has nothing pending
-        idle : InOrder c → 1 ≤ c .open′ → (n : ℕ) → c .pending ≡ n → c .pending ≡ 0
-        idle o h zero e = e
-        idle o h (suc n) e = absurd (omega (arith, h, card-asks c (o .fits) .busy (omega arith) .3))
+    change-own : (edit : Edit) (totals : List ℕ) → changeCode P master card table edit totals ≡ 0 → OwnLength (changeCard P master card table edit totals)
+    unfolding changeCard changedCard committedCard askedCard
+    change-own edit totals ok = rw ok (card-told _ (change-has P master card table edit totals ok .order .id8))
 
-        judged : judgeFault P master card ≡ 0 → InOrder (turnedCard c (c .next) 0)
-        judged e =
-            let h = judge-has P master card e in
-            let limits = card-limits c (h .order .fits) in
-            turned-order c (h .order) (c .next) 0 (idle (h .order) (h .some-open) (c .pending) refl) (limits .next1) (limits .nextmost) refl
+    ask-own : (edit : Edit) (second totals : List ℕ) → askCode P master card table second edit totals ≡ 0 → OwnLength (askCard P master card table second edit totals)
+    unfolding askCard askedCard
+    ask-own edit second totals ok = rw ok (card-told _ (change-has P master card table edit totals (ask-exactly P master card table second edit totals .0 ok .0) .order .id8))
 
     -- an accepted change, and an accepted ask, which writes what the change would
     change-steps : (edit : Edit) (totals : List ℕ) → permits role (deedOf (change edit totals)) ≡ true → changeCode P master card table edit totals ≡ 0
@@ -181,7 +200,13 @@ module _ (P : Primitives) where
     unfolding taken sealed under
     change-steps edit totals may ok =
         let l = change-last master card table edit totals ok in
-        record { one-taken = rw (may, ok, l); all-under = rw (may, ok) (change-nonces master card table edit totals ok); above = omega arith; rises = rw may l }
+        record {
+          one-taken = rw (may, ok, l);
+          all-under = rw (may, ok) (change-nonces master card table edit totals ok);
+          above = omega arith;
+          rises = rw may l;
+          own = λ l. rw may (change-own edit totals ok);
+        }
 
     ask-steps : (edit : Edit) (second totals : List ℕ) → permits role (deedOf (ask edit second totals)) ≡ true → askCode P master card table second edit totals ≡ 0
         → Steps (record { role = role; master = master; call = ask edit second totals }) card table ((readCard card) .last + 1)
@@ -191,59 +216,73 @@ module _ (P : Primitives) where
         let same = one-step P master card table second edit totals (h .1) (h .2) .table′ (h .0) in
         let l : (readCard (askCard P master card table second edit totals)) .last ≡ (readCard card) .last + 1 =
         rw (read-asked P master card table second edit totals ok) (unfold askedCard in refl) in
-        record { one-taken = rw (may, ok, l); all-under = rw (may, ok, same) (change-nonces master card table edit totals (h .0)); above = omega arith; rises = rw may l }
+        record {
+          one-taken = rw (may, ok, l);
+          all-under = rw (may, ok, same) (change-nonces master card table edit totals (h .0));
+          above = omega arith;
+          rises = rw may l;
+          own = λ l. rw may (ask-own edit second totals ok);
+        }
 
     -- a refused one
     refused-change : (edit : Edit) (totals : List ℕ) (n : ℕ) → permits role (deedOf (change edit totals)) ≡ true → changeCode P master card table edit totals ≡ suc n → Still (record { role = role; master = master; call = change edit totals }) card table
     unfolding taken sealed changeCard under
-    refused-change edit totals n may e = record { none-taken = rw (may, e); none-sealed = rw (may, e); stays = rw (may, e) }
+    refused-change edit totals n may e = record { none-taken = rw (may, e); none-sealed = rw (may, e); stays = rw (may, e); own = λ l. rw (may, e) l }
 
     refused-ask : (edit : Edit) (second totals : List ℕ) (n : ℕ) → permits role (deedOf (ask edit second totals)) ≡ true → askCode P master card table second edit totals ≡ suc n
         → Still (record { role = role; master = master; call = ask edit second totals }) card table
     unfolding taken sealed askCard under
-    refused-ask edit second totals n may e = record { none-taken = rw (may, e); none-sealed = rw (may, e); stays = rw (may, e) }
+    refused-ask edit second totals n may e = record { none-taken = rw (may, e); none-sealed = rw (may, e); stays = rw (may, e); own = λ l. rw (may, e) l }
 
     -- one or the other, of a permitted call
     abbrev Either : Call → Type 0
     Either x = Still (record { role = role; master = master; call = x }) card table ⊎ Steps (record { role = role; master = master; call = x }) card table ((readCard card) .last + 1)
 
-    either : (x : Call) → permits role (deedOf x) ≡ true → Either x
-    either (change edit totals) may = go (changeCode P master card table edit totals) refl
+    either : (x : Call) → PlacedIn x card → permits role (deedOf x) ≡ true → Either x
+    either (change edit totals) t may = go (changeCode P master card table edit totals) refl
       where
         go : (n : ℕ) → changeCode P master card table edit totals ≡ n → Either (change edit totals)
         go zero e = inr (change-steps edit totals may e)
         go (suc n) e = inl (refused-change edit totals n may e)
-    either (ask edit second totals) may = go (askCode P master card table second edit totals) refl
+    either (ask edit second totals) t may = go (askCode P master card table second edit totals) refl
       where
         go : (n : ℕ) → askCode P master card table second edit totals ≡ n → Either (ask edit second totals)
         go zero e = inr (ask-steps edit second totals may e)
         go (suc n) e = inl (refused-ask edit second totals n may e)
-    either commit may = inl (still commit may last-commit refl refl)
-    either drop may = inl (still drop may last-drop refl refl)
-    either (draw message plan now) may = inl (still (draw message plan now) may (last-draw message plan now) refl refl)
-    either (judge reply) may = inl (still (judge reply) may (last-judge reply) refl refl)
+    either commit t may = inl (still commit may last-commit refl refl)
+    either drop t may = inl (still drop may last-drop refl refl)
+    either (draw message plan now) t may = inl (still (draw message plan now) may (last-draw message plan now) refl refl)
+    either (judge reply) t may = inl (still (judge reply) may (last-judge reply) refl refl)
+    either (pool before behind reply) t may = inl (still (pool before behind reply) may (last-pool before behind reply (t .0) (t .1) (t .2)) refl refl)
 
-  module _ (x : Lent) (card table : List ℕ) where
-    abbrev card′ : List ℕ
-    card′ = lentCard P x card table
+  abbrev card′ : Lent → List ℕ → List ℕ → List ℕ
+  card′ x card table = lentCard P x card table
 
+  module _ (x : Lent) (card table : List ℕ) (told : PlacedIn (x .call) card) where
     -- a call that is not permitted does nothing
     either-role : Still x card table ⊎ Steps x card table ((readCard card) .last + 1)
     unfolding taken sealed under
     either-role = go (permits (x .role) (deedOf (x .call))) refl
       where
         go : (may : Bool) → permits (x .role) (deedOf (x .call)) ≡ may → Still x card table ⊎ Steps x card table ((readCard card) .last + 1)
-        go true e = either (x .role) (x .master) card table (x .call) e
-        go false e = inl (record { none-taken = rw e; none-sealed = rw e; stays = rw e })
+        go true e = either (x .role) (x .master) card table (x .call) told e
+        go false e = inl (record { none-taken = rw e; none-sealed = rw e; stays = rw e; own = λ l. rw e l })
 
-    more-counters : (ms : List ℕ) → Rising ((readCard card′) .last) ms → Rising ((readCard card) .last) (taken P x card table ++ ms)
+    own-after : OwnLength card → OwnLength (card′ x card table)
+    own-after = go either-role
+      where
+        go : Still x card table ⊎ Steps x card table ((readCard card) .last + 1) → OwnLength card → OwnLength (card′ x card table)
+        go (inl s) = s .own
+        go (inr s) = s .own
+
+    more-counters : (ms : List ℕ) → Rising ((readCard (card′ x card table)) .last) ms → Rising ((readCard card) .last) (taken P x card table ++ ms)
     more-counters ms r = go either-role
       where
         go : Still x card table ⊎ Steps x card table ((readCard card) .last + 1) → Rising ((readCard card) .last) (taken P x card table ++ ms)
         go (inl s) = rw (s .none-taken) (subst (λ (n : ℕ). Rising n ms) (s .stays) r)
         go (inr s) = rw (s .one-taken) (s .above, subst (λ (n : ℕ). Rising n ms) (s .rises) r)
 
-    more-seals : (qs : List (ℕ × ℕ)) → Above ((readCard card′) .last) qs → Once qs → Above ((readCard card) .last) (sealed P x card table ++ qs) × Once (sealed P x card table ++ qs)
+    more-seals : (qs : List (ℕ × ℕ)) → Above ((readCard (card′ x card table)) .last) qs → Once qs → Above ((readCard card) .last) (sealed P x card table ++ qs) × Once (sealed P x card table ++ qs)
     more-seals qs a o = go either-role
       where
         c : Card
@@ -259,19 +298,35 @@ module _ (P : Primitives) where
             )
 
   -- "Every ask takes the last issued plus 1, even after a drop"
-  pub seals-rise : (xs : List Lent) (card table asked : List ℕ) → Rising ((readCard card) .last) (counters P xs card table asked)
+  pub seals-rise : (xs : List Lent) (card table asked : List ℕ) → Placed P xs card table asked → Rising ((readCard card) .last) (counters P xs card table asked)
   unfolding counters
-  seals-rise [] card table asked = tt
-  seals-rise (x ∷ xs) card table asked =
-      more-counters x card table _
-      (seals-rise xs (card′ x card table) (lentTable P x card table asked) (lentAsked P x card table asked))
+  seals-rise [] card table asked t = tt
+  seals-rise (x ∷ xs) card table asked t =
+      more-counters x card table (t .0) _ (seals-rise xs (card′ x card table) (lentTable P x card table asked) (lentAsked P x card table asked) (t .1))
 
-  seals-above : (xs : List Lent) (card table asked : List ℕ) → Above ((readCard card) .last) (seals P xs card table asked) × Once (seals P xs card table asked)
+  seals-above : (xs : List Lent) (card table asked : List ℕ) → Placed P xs card table asked
+      → Above ((readCard card) .last) (seals P xs card table asked) × Once (seals P xs card table asked)
   unfolding seals
-  seals-above [] card table asked = (tt, tt)
-  seals-above (x ∷ xs) card table asked =
-      let ih = seals-above xs (card′ x card table) (lentTable P x card table asked) (lentAsked P x card table asked) in
-      more-seals x card table _ (ih .0) (ih .1)
+  seals-above [] card table asked t = (tt, tt)
+  seals-above (x ∷ xs) card table asked t =
+      let ih = seals-above xs (card′ x card table) (lentTable P x card table asked) (lentAsked P x card table asked) (t .1) in
+      more-seals x card table (t .0) _ (ih .0) (ih .1)
+
+  -- a card that was written stays as long as its length field tells, so it is enough that the other cards are
+  placed-in : (x : Call) (card : List ℕ) → OwnLength card → OthersIn x → PlacedIn x card
+  placed-in (change edit totals) card l t = tt
+  placed-in (ask edit second totals) card l t = tt
+  placed-in commit card l t = tt
+  placed-in drop card l t = tt
+  placed-in (draw message plan now) card l t = tt
+  placed-in (judge reply) card l t = tt
+  placed-in (pool before behind reply) card l t = (t .0, l, t .1)
+
+  placed : (xs : List Lent) (card table asked : List ℕ) → OwnLength card → OthersTold xs → Placed P xs card table asked
+  placed [] card table asked l t = tt
+  placed (x ∷ xs) card table asked l t =
+      let p = placed-in (x .call) card l (t .0) in
+      (p, placed xs (card′ x card table) (lentTable P x card table asked) (lentAsked P x card table asked) (own-after x card table p l) (t .1))
 
   -- a record among records one after the other
   records-at : (f : ℕ → List ℕ) → ((i : ℕ) → length (f i) ≡ 63) → (m i : ℕ) (p : List ℕ) → 1 ≤ i → length p ≡ (i - 1) * 63
@@ -316,11 +371,14 @@ module _ (P : Primitives) where
         ∙ (unfold bookCard started in refl)
 
     -- "a nonce may seal only once"
-    pub seals-once : (calls : List Lent) (asked : List ℕ)
+    pub seals-once : (calls : List Lent) (asked : List ℕ) → OthersTold calls
         → Once (noncesFrom t 1 (setUpTable P master id v B d r t n blocks card table totals)
         ++ seals P calls (setUpCard P master id v B d r t n blocks card table totals) (setUpTable P master id v B d r t n blocks card table totals) asked)
-    seals-once calls asked =
+    seals-once calls asked told =
         let card′ = setUpCard P master id v B d r t n blocks card table totals in
         let table′ = setUpTable P master id v B d r t n blocks card table totals in
-        let p = seals-above calls card′ table′ asked in
+        let b = started master id v B d r t n blocks in
+        let g = start-good P master id v B d r t n blocks card table totals ok in
+        let own : OwnLength card′ = subst OwnLength (sym (start-card P master id v B d r t n blocks card table totals ok)) (card-told (bookCard b) (unfold bookCard in g .id8)) in
+        let p = seals-above calls card′ table′ asked (placed calls card′ table′ asked own told) in
         rw start-nonces (once-more 0 t 1 (seals P calls card′ table′ asked) (subst (λ (m : ℕ). Above m (seals P calls card′ table′ asked)) start-last (p .0)) (p .1))

@@ -18,8 +18,9 @@ use Rattle.scheme.specs.Primitives.{Primitives}
 use Rattle.scheme.specs.Changes.{changeTable, changeTotals}
 use Rattle.scheme.specs.Calls.{drawMessage, judgeCode, causeCode}
 use Rattle.scheme.specs.Asks.{askSecond, askTotals}
-use Rattle.scheme.specs.Roles.{Deed, toUpdate, toDelete, toAppend, toLoad, toBatch, toCommit, toDrop, toDraw, toJudge, toCause, permits, under}
-use Rattle.scheme.specs.Runs.{Call, change, ask, commit, drop, draw, judge, deedOf, callCode, callCard}
+use Rattle.scheme.specs.Pools.{poolCards, pooled}
+use Rattle.scheme.specs.Roles.{Deed, toUpdate, toDelete, toAppend, toLoad, toBatch, toCommit, toDrop, toDraw, toJudge, toCause, toPool, permits, under}
+use Rattle.scheme.specs.Runs.{Call, change, ask, commit, drop, draw, judge, pool, deedOf, callCode, callCard}
 use Rattle.scheme.proofs.RejectedTheorem.{cause-none}
 
 -- a call of a list, or cause with its reply
@@ -42,7 +43,7 @@ eachUnder role d [] ys = []
 eachUnder role d (x ∷ xs) [] = []
 eachUnder role d (x ∷ xs) (y ∷ ys) = under role d x y ∷ eachUnder role d xs ys
 
--- the buffers that the call may write, as it is lent them, the card first
+-- the buffers that the call may write, as it is lent them, the card first; of a pooled judgement all cards
 abbrev pub lent : Carded → List ℕ → List ℕ → List (List ℕ)
 lent (listed (change e totals)) card table = card ∷ table ∷ totals ∷ []
 lent (listed (ask e second totals)) card table = card ∷ second ∷ totals ∷ []
@@ -50,6 +51,7 @@ lent (listed commit) card table = card ∷ []
 lent (listed drop) card table = card ∷ []
 lent (listed (draw message plan now)) card table = card ∷ message ∷ []
 lent (listed (judge reply)) card table = card ∷ []
+lent (listed (pool before behind reply)) card table = pooled before card behind ∷ []
 lent (cause reply) card table = []
 
 module _ (P : Primitives) (master : List ℕ) where
@@ -69,6 +71,7 @@ module _ (P : Primitives) (master : List ℕ) where
   written (listed (draw message plan now)) card table =
       callCard P master (draw message plan now) card table ∷ drawMessage P master card message plan now ∷ []
   written (listed (judge reply)) card table = callCard P master (judge reply) card table ∷ []
+  written (listed (pool before behind reply)) card table = poolCards P master (pooled before card behind) reply ∷ []
   written (cause reply) card table = []
 
   -- under a role
@@ -88,6 +91,7 @@ module _ (P : Primitives) (master : List ℕ) where
   permitted-as-before role (listed drop) card table may = rw may
   permitted-as-before role (listed (draw message plan now)) card table may = rw may
   permitted-as-before role (listed (judge reply)) card table may = rw may
+  permitted-as-before role (listed (pool before behind reply)) card table may = rw may
   permitted-as-before role (cause reply) card table may = rw may
 
   -- "It refuses, ahead of every check, an unknown role or one lacking the right (22)"
@@ -100,6 +104,7 @@ module _ (P : Primitives) (master : List ℕ) where
   turned-away role (listed drop) card table without = rw without
   turned-away role (listed (draw message plan now)) card table without = rw without
   turned-away role (listed (judge reply)) card table without = rw without
+  turned-away role (listed (pool before behind reply)) card table without = rw without
   turned-away role (cause reply) card table without = rw without
 
 -- "A caller without the right gets an answer that depends on role and call only": two calls that do the same, under one role, whatever else they are lent
@@ -136,8 +141,9 @@ unknown-role role toDrop h₁ h₂ h₃ = rw (ne-eqb role 2 h₂)
 unknown-role role toDraw h₁ h₂ h₃ = rw (ne-eqb role 2 h₂, ne-eqb role 3 h₃)
 unknown-role role toJudge h₁ h₂ h₃ = rw (ne-eqb role 2 h₂, ne-eqb role 3 h₃)
 unknown-role role toCause h₁ h₂ h₃ = rw (ne-eqb role 2 h₂, ne-eqb role 3 h₃)
+unknown-role role toPool h₁ h₂ h₃ = rw (ne-eqb role 2 h₂, ne-eqb role 3 h₃)
 
--- "Role 1, surveyor, may append and load ..; role 2, planner, everything; role 3, manager, draw, judge and ask the cause"
+-- "Role 1, surveyor, may append and load ..; role 2, planner, everything; role 3, manager, draw, judge and ask the cause"; a pool is "judged by roles 2 and 3"
 pub rights-table : (permits 1 toUpdate ≡ false) × (permits 2 toUpdate ≡ true) × (permits 3 toUpdate ≡ false)
     × (permits 1 toDelete ≡ false) × (permits 2 toDelete ≡ true) × (permits 3 toDelete ≡ false)
     × (permits 1 toAppend ≡ true) × (permits 2 toAppend ≡ true) × (permits 3 toAppend ≡ false)
@@ -148,6 +154,7 @@ pub rights-table : (permits 1 toUpdate ≡ false) × (permits 2 toUpdate ≡ tru
     × (permits 1 toDraw ≡ false) × (permits 2 toDraw ≡ true) × (permits 3 toDraw ≡ true)
     × (permits 1 toJudge ≡ false) × (permits 2 toJudge ≡ true) × (permits 3 toJudge ≡ true)
     × (permits 1 toCause ≡ false) × (permits 2 toCause ≡ true) × (permits 3 toCause ≡ true)
+    × (permits 1 toPool ≡ false) × (permits 2 toPool ≡ true) × (permits 3 toPool ≡ true)
 unfolding permits
 rights-table =
-    (refl, refl, refl, refl, refl, refl, refl, refl, refl, refl, refl, refl, refl, refl, refl, refl, refl, refl, refl, refl, refl, refl, refl, refl, refl, refl, refl, refl, refl, refl)
+    (refl, refl, refl, refl, refl, refl, refl, refl, refl, refl, refl, refl, refl, refl, refl, refl, refl, refl, refl, refl, refl, refl, refl, refl, refl, refl, refl, refl, refl, refl, refl, refl, refl)

@@ -17,12 +17,28 @@ use Rattle.scheme.specs.Judging.{causeNumber, cause, verdictOf, verdict}
 use Rattle.scheme.specs.Changes.{Edit, unusedBad, changeChecks, changeCode}
 use Rattle.scheme.specs.Calls.{Moment, drawEarly, drawLate, drawCode, judgeChecks, judgeFault, judgeCode}
 use Rattle.scheme.specs.Asks.{askChecks, askCode, settleChecks, settleCode}
+use Rattle.scheme.specs.Pools.{readAll, cut, poolFault, poolFits, poolVerdict, poolCode, pooled}
 use Rattle.scheme.specs.Roles.{permits, under}
-use Rattle.scheme.specs.Runs.{Call, change, ask, commit, drop, draw, judge, deedOf, Lent, callCode, lentCode}
+use Rattle.scheme.specs.Runs.{Call, change, ask, commit, drop, draw, judge, pool, deedOf, Lent, callCode, lentCode}
 use Rattle.scheme.specs.Book.{Book, bookCard, bookTable}
 use Rattle.scheme.proofs.LadderLaws.{Fine, fine-pass, fine-part, fine-end}
 use Rattle.scheme.proofs.CallLaws.{late-plain}
+use Rattle.scheme.proofs.PoolLaws.{fine-pool}
 use Rattle.scheme.proofs.BookLaws.{Good, back, sound}
+
+-- a verdict
+two : (t : Bool) → Fine (cond t 0 11)
+two true = omega arith
+two false = omega arith
+
+-- a pooled judgement
+fine-pooled : (P : Primitives) (master cards reply : List ℕ) → Fine (poolCode P master cards reply)
+unfolding poolCode poolVerdict
+fine-pooled P master cards reply = go (poolFault master cards) (fine-pool master cards)
+  where
+    go : (n : ℕ) → Fine n → Fine (ifZero n (poolVerdict P master (readAll (cut cards)) reply) n)
+    go zero f = two (poolFits P master (readAll (cut cards)) reply)
+    go (suc n) f = f
 
 module _ (P : Primitives) (b : Book) (g : Good P b) where
   -- a change lent the key finds every unused record sound
@@ -79,10 +95,6 @@ module _ (P : Primitives) (b : Book) (g : Good P b) where
   unfolding judgeCode verdict verdictOf
   fine-judge master reply = go (judgeFault P master (cardBytes (bookCard b))) (fine-fault master)
     where
-      two : (t : Bool) → Fine (cond t 0 11)
-      two true = omega arith
-      two false = omega arith
-
       go : (n : ℕ) → Fine n → Fine (ifZero n (verdict P master (readCard (cardBytes (bookCard b))) reply) n)
       go zero f = two (eqb (causeNumber (cause P master (readCard (cardBytes (bookCard b))) reply)) 0)
       go (suc n) f = f
@@ -96,6 +108,7 @@ module _ (P : Primitives) (b : Book) (g : Good P b) where
   fine-call master drop k = fine-settle
   fine-call master (draw message plan now) k = fine-draw master message plan now
   fine-call master (judge reply) k = fine-judge master reply
+  fine-call master (pool before behind reply) k = fine-pooled P master (pooled before (cardBytes (bookCard b)) behind) reply
 
   -- under its role a call gives the same, or 22
   pub fine : (x : Lent) → (length (x .master) ≡ 32 → x .master ≡ b .key) → Fine (lentCode P x (cardBytes (bookCard b)) (bookTable P b))

@@ -2,16 +2,21 @@
 --   taken, counters             the counter that a call takes; those that a list takes, in order
 --   noncesFrom, sealed, seals   counter and token number of records; of those that a call seals; of those that a list seals
 --   Rising, Once                numbers that rise; pairs of which none occurs twice
+--   OwnLength                   a card is as long as its length field tells
+--   OthersTold, Placed          so are the other cards of every pooled judgement in a list; so are all its cards, this one too
 use Prim.Native.Nat.{ℕ, zero, suc, _+_, _-_, _<_}
+use mathlib.Core.Path.{_≡_}
 use mathlib.Core.List.{List, [], _∷_, _++_}
 use mathlib.Core.Logic.{_≢_}
+use lib.ListN.{length}
 use Rattle.octets.specs.Octets.{ofBe, part}
 use Rattle.scheme.specs.Ladder.{ifZero}
 use Rattle.scheme.specs.Primitives.{Primitives}
 use Rattle.scheme.specs.Records.{Card, readCard, recordAt}
 use Rattle.scheme.specs.Changes.{changeCard, changeTable}
 use Rattle.scheme.specs.Asks.{askCard, askSecond}
-use Rattle.scheme.specs.Runs.{Call, change, ask, commit, drop, draw, judge, Lent, lentCode, lentCard, lentTable, lentAsked}
+use Rattle.scheme.specs.Pools.{Told}
+use Rattle.scheme.specs.Runs.{Call, change, ask, commit, drop, draw, judge, pool, Lent, lentCode, lentCard, lentTable, lentAsked}
 
 -- above m, each above the one before
 abbrev pub Rising : ℕ → List ℕ → Type 0
@@ -36,6 +41,32 @@ abbrev pub Once : List (ℕ × ℕ) → Type 0
 Once [] = Unit {0}
 Once (p ∷ ps) = Missing p ps × Once ps
 
+-- "each as long as its length field tells"
+abbrev pub OwnLength : List ℕ → Type 0
+OwnLength card = length card ≡ 2 + ofBe (part 0 2 card)
+
+abbrev pub OthersIn : Call → Type 0
+OthersIn (change e totals) = Unit {0}
+OthersIn (ask e second totals) = Unit {0}
+OthersIn commit = Unit {0}
+OthersIn drop = Unit {0}
+OthersIn (draw message plan now) = Unit {0}
+OthersIn (judge reply) = Unit {0}
+OthersIn (pool before behind reply) = Told before × Told behind
+
+abbrev pub OthersTold : List Lent → Type 0
+OthersTold [] = Unit {0}
+OthersTold (x ∷ xs) = OthersIn (x .call) × OthersTold xs
+
+abbrev pub PlacedIn : Call → List ℕ → Type 0
+PlacedIn (change e totals) card = Unit {0}
+PlacedIn (ask e second totals) card = Unit {0}
+PlacedIn commit card = Unit {0}
+PlacedIn drop card = Unit {0}
+PlacedIn (draw message plan now) card = Unit {0}
+PlacedIn (judge reply) card = Unit {0}
+PlacedIn (pool before behind reply) card = Told before × OwnLength card × Told behind
+
 module _ (P : Primitives) where
   -- a change, in one step or asked, takes a counter: the last issued on the card that it leaves; no other call of a list does
   abbrev pub takes : List ℕ → Call → List ℕ → List ℕ → List ℕ
@@ -45,6 +76,7 @@ module _ (P : Primitives) where
   takes master drop card table = []
   takes master (draw message plan now) card table = []
   takes master (judge reply) card table = []
+  takes master (pool before behind reply) card table = []
 
   -- and seals the unused records of the table that it writes
   abbrev pub writes : List ℕ → Call → List ℕ → List ℕ → List (ℕ × ℕ)
@@ -54,6 +86,7 @@ module _ (P : Primitives) where
   writes master drop card table = []
   writes master (draw message plan now) card table = []
   writes master (judge reply) card table = []
+  writes master (pool before behind reply) card table = []
 
   -- where it is accepted
   unfoldable pub taken : Lent → List ℕ → List ℕ → List ℕ
@@ -74,3 +107,9 @@ module _ (P : Primitives) where
   seals (x ∷ xs) card table asked =
       sealed x card table
       ++ seals xs (lentCard P x card table) (lentTable P x card table asked) (lentAsked P x card table asked)
+
+  -- of calls one after the other: a list without pooled judgements is placed on any card
+  abbrev pub Placed : List Lent → List ℕ → List ℕ → List ℕ → Type 0
+  Placed [] card table asked = Unit {0}
+  Placed (x ∷ xs) card table asked =
+      PlacedIn (x .call) card × Placed xs (lentCard P x card table) (lentTable P x card table asked) (lentAsked P x card table asked)

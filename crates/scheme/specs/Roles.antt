@@ -19,7 +19,7 @@ planner = 2
 abbrev pub manager : ℕ
 manager = 3
 
--- a change, in one step or asked; a commit; a drop; a draw; a judgement; asking the cause
+-- a change, in one step or asked; a commit; a drop; a draw; a judgement; asking the cause; a pooled judgement
 pub data Deed : Type 0 where
   toUpdate : Deed
   toDelete : Deed
@@ -31,8 +31,10 @@ pub data Deed : Type 0 where
   toDraw : Deed
   toJudge : Deed
   toCause : Deed
+  toPool : Deed
 
--- the surveyor "may append and load, or ask these", the planner "everything", the manager "draw, judge and ask the cause"
+-- the surveyor "may append and load, or ask these", the planner "everything", the manager "draw, judge and ask the cause";
+-- a pooled reply is "judged by roles 2 and 3" (#113)
 abbrev pub rights : Deed → List ℕ
 rights toUpdate = planner ∷ []
 rights toDelete = planner ∷ []
@@ -44,6 +46,7 @@ rights toDrop = planner ∷ []
 rights toDraw = planner ∷ manager ∷ []
 rights toJudge = planner ∷ manager ∷ []
 rights toCause = planner ∷ manager ∷ []
+rights toPool = planner ∷ manager ∷ []
 
 abbrev pub among : ℕ → List ℕ → Bool
 among x [] = false

@@ -5,15 +5,20 @@
 --   faultOf, turnedAway         the code that a call gives in place of what it does
 use Prim.Native.Nat.{ℕ}
 use mathlib.Core.List.{List, [], _∷_}
+use lib.ListN.{length}
+use Rattle.octets.specs.Octets.{part}
 use Rattle.scheme.specs.Ladder.{ifZero}
+use Rattle.scheme.specs.Lists.{joined}
 use Rattle.scheme.specs.Primitives.{Primitives}
 use Rattle.scheme.specs.Changes.{Edit, changeCode, changeCard, changeTable}
 use Rattle.scheme.specs.Calls.{Moment, drawCode, drawCard, judgeFault, judgeCode, judgeCard}
 use Rattle.scheme.specs.Asks.{askCode, askCard, askSecond, settleCode, commitCard, dropCard}
-use Rattle.scheme.specs.Roles.{Deed, toCommit, toDrop, toDraw, toJudge, editDeed, under}
+use Rattle.scheme.specs.Pools.{pooled, poolFault, poolCode, poolCards}
+use Rattle.scheme.specs.Roles.{Deed, toCommit, toDrop, toDraw, toJudge, toPool, editDeed, under}
 
 -- an update, delete, append, load or batch in one step, with the buffer lent for totals; the same asked, with the buffers lent for the second table and
--- for totals; commit and drop; draw, with the buffer lent for a message, the plan and the moment; judge, with the reply
+-- for totals; commit and drop; draw, with the buffer lent for a message, the plan and the moment; judge, with the reply; a pooled judgement, with the cards
+-- lent before this one and those behind it, and the reply
 pub data Call : Type 0 where
   change : Edit → List ℕ → Call
   ask : Edit → List ℕ → List ℕ → Call
@@ -21,6 +26,7 @@ pub data Call : Type 0 where
   drop : Call
   draw : List ℕ → List ℕ → Moment → Call
   judge : List ℕ → Call
+  pool : List (List ℕ) → List (List ℕ) → List ℕ → Call
 
 -- what a call does, which a role must have the right to
 abbrev pub deedOf : Call → Deed
@@ -30,6 +36,7 @@ deedOf commit = toCommit
 deedOf drop = toDrop
 deedOf (draw message plan now) = toDraw
 deedOf (judge reply) = toJudge
+deedOf (pool before behind reply) = toPool
 
 -- a call with the role that makes it and the master that it is lent
 pub record Lent : Type 0 where
@@ -56,6 +63,7 @@ module _ (P : Primitives) where
   callCode master drop card table = settleCode card
   callCode master (draw message plan now) card table = drawCode P master card message plan now
   callCode master (judge reply) card table = judgeCode P master card reply
+  callCode master (pool before behind reply) card table = poolCode P master (pooled before card behind) reply
 
   abbrev pub callCard : List ℕ → Call → List ℕ → List ℕ → List ℕ
   callCard master (change e totals) card table = changeCard P master card table e totals
@@ -64,6 +72,8 @@ module _ (P : Primitives) where
   callCard master drop card table = dropCard card
   callCard master (draw message plan now) card table = drawCard P master card message plan now
   callCard master (judge reply) card table = judgeCard P master card reply
+  -- "In lists, a pooled judgement is a step on each card": what it leaves in this card's place
+  callCard master (pool before behind reply) card table = part (length (joined before)) (length card) (poolCards P master (pooled before card behind) reply)
 
   -- the standing table; asked is the table that the last accepted ask left: "A commit .. makes its ask's table, as the ask left it .. the standing" one
   abbrev pub callTable : List ℕ → Call → List ℕ → List ℕ → List ℕ → List ℕ
@@ -73,6 +83,7 @@ module _ (P : Primitives) where
   callTable master drop card table asked = table
   callTable master (draw message plan now) card table asked = table
   callTable master (judge reply) card table asked = table
+  callTable master (pool before behind reply) card table asked = table
 
   abbrev pub callAsked : List ℕ → Call → List ℕ → List ℕ → List ℕ → List ℕ
   callAsked master (change e totals) card table asked = asked
@@ -81,6 +92,7 @@ module _ (P : Primitives) where
   callAsked master drop card table asked = asked
   callAsked master (draw message plan now) card table asked = asked
   callAsked master (judge reply) card table asked = asked
+  callAsked master (pool before behind reply) card table asked = asked
 
   -- under the call's role
   abbrev pub lentCode : Lent → List ℕ → List ℕ → ℕ
@@ -108,6 +120,7 @@ module _ (P : Primitives) where
   faultOf master drop card table = settleCode card
   faultOf master (draw message plan now) card table = drawCode P master card message plan now
   faultOf master (judge reply) card table = judgeFault P master card
+  faultOf master (pool before behind reply) card table = poolFault master (pooled before card behind)
 
   -- and "ahead of every check", 22
   abbrev pub turnedAway : Lent → List ℕ → List ℕ → ℕ

@@ -67,6 +67,12 @@ enum-told-10 c = search needs
 is-either-requires-5 : tie.Need-is-either-requires-5
 is-either-requires-5 c κs = search needs
 
+enum-told-11 : tie.Need-enum-told-11
+enum-told-11 c = search needs
+
+is-either-requires-6 : tie.Need-is-either-requires-6
+is-either-requires-6 c κs = search needs
+
 returns : tie.Need-returns
 unfolding S.permits
 returns c = c .is .ensures ∙ ap (λ (w : Deed). S.permits (c .before .before .before .args .role) (deedOf w)) (sym (c .before .enum-told .given .1))
@@ -107,6 +113,10 @@ returns-10 : tie.Need-returns-10
 unfolding S.permits
 returns-10 c = c .is-either5 .ensures ∙ ap (λ (w : Deed). S.permits (c .before .before .before .args .role) (deedOf w)) (sym (c .before .enum-told10 .given .1))
 
+returns-11 : tie.Need-returns-11
+unfolding S.permits
+returns-11 c = c .is-either6 .ensures ∙ ap (λ (w : Deed). S.permits (c .before .before .before .args .role) (deedOf w)) (sym (c .before .enum-told11 .given .1))
+
 pub permits-spec : {M : Type 1} → statement M
 permits-spec =
     tie.close
@@ -131,6 +141,8 @@ permits-spec =
     is-either-requires-4
     enum-told-10
     is-either-requires-5
+    enum-told-11
+    is-either-requires-6
     returns
     returns-2
     returns-3
@@ -140,4 +152,5 @@ permits-spec =
     returns-7
     returns-8
     returns-9
-    returns-10)
+    returns-10
+    returns-11)
