@@ -28,20 +28,23 @@ enum kind {
     POSITIONS,
     WAIT,
     SHEET,
+    PARITY_ENCODE,
+    PARITY_REBUILD,
     KINDS
 };
 
 /* The highest code of any call. */
-enum { LAST_CODE = LEGBARO_NO_RIGHT };
+enum { LAST_CODE = LEGBARO_TOO_MANY_LOST };
 
 /* The buffers that calls are lent. */
-enum argument { MASTER, ID, BLOCKS, CARD, TABLE, SECOND, OLD, MARKS, NEW, ITEMS, MESSAGE, PLAN, REPLY, TOTALS, OUT, ARGUMENTS };
+enum argument { MASTER, ID, BLOCKS, CARD, TABLE, SECOND, OLD, MARKS, NEW, ITEMS, MESSAGE, PLAN, REPLY, TOTALS, OUT, LOST, ARGUMENTS };
 
 struct call {
     enum kind kind;
     uint64_t role;                     /* of who makes a call that is lent a card, set-up apart */
-    uint64_t version, B, d, r, t, n;   /* of a set-up and of a sheet; positions takes r, d and n */
-    uint64_t m;                        /* the block number of an update or a deletion, asked too; the damaged rows of a sheet */
+    uint64_t version, B, d, r, t, n;   /* of a set-up and of a sheet; positions takes r, d and n; of parity B and the data blocks n */
+    uint64_t m;                        /* the block number of an update or a deletion, asked too; the damaged rows of a sheet; of
+                                          parity the parity blocks */
     uint64_t year, month, day, minute; /* of a draw and of a wait */
     struct buffer lent[ARGUMENTS];
 };

@@ -9,6 +9,7 @@
 #define READS_CARD (READS | CODE(LEGBARO_NO_RIGHT))
 #define CHANGES                                                                                                                \
     (READS_CARD | CODE(LEGBARO_TOKEN_OPEN) | CODE(LEGBARO_CHANGE_PENDING) | CODE(LEGBARO_COUNTER_AT_MOST) | CODE(LEGBARO_BAD_RECORD))
+#define CODED (CODE(LEGBARO_OK) | CODE(LEGBARO_WRONG_LENGTH) | CODE(LEGBARO_OUT_OF_LIMITS) | CODE(LEGBARO_BAD_GROUP))
 
 /* The codes of each kind of call, a bit for each; an ask has those of its change. */
 static const unsigned codes[KINDS] = {
@@ -27,6 +28,8 @@ static const unsigned codes[KINDS] = {
     [PROVE] = READS | CODE(LEGBARO_BAD_MARK),
     [WAIT] = CODE(LEGBARO_OK) | CODE(LEGBARO_WRONG_LENGTH) | CODE(LEGBARO_OUT_OF_LIMITS) | CODE(LEGBARO_BAD_TIME),
     [SHEET] = CODE(LEGBARO_OK) | CODE(LEGBARO_WRONG_LENGTH) | CODE(LEGBARO_OUT_OF_LIMITS) | CODE(LEGBARO_TOO_MANY_DAMAGED),
+    [PARITY_ENCODE] = CODED,
+    [PARITY_REBUILD] = CODED | CODE(LEGBARO_TOO_MANY_LOST),
     [POSITIONS] = CODE(LEGBARO_OK) | CODE(LEGBARO_OUT_OF_LIMITS) | CODE(LEGBARO_TOO_MANY_POSITIONS),
 };
 

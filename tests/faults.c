@@ -5,6 +5,7 @@
 #include "files.h"
 #include "groups.h"
 #include "hours.h"
+#include "parities.h"
 
 /* Three files of one version on which only a fault turns a call away, as far as the version goes. On `changing`, for changes, asks and
  * draws, token 1 is spent; on `judging`, for judgings, causes and proofs, token 2 is drawn; on `settling`, for commits and drops, a load is
@@ -44,6 +45,14 @@ static struct call open_wait(void)
     return call;
 }
 
+static struct call rebuilding(void)
+{
+    static const uint8_t lost[LOST_BLOCKS] = {FIRST_LOST_BLOCK, LAST_LOST_BLOCK};
+    struct call encoding = parity_encoding(B, N, LOST_BLOCKS), call = parity_rebuilding(&encoding, lost, LOST_BLOCKS);
+    call_free(&encoding);
+    return call;
+}
+
 static struct call faultless(enum kind kind);
 
 static struct call faultless_ask(enum kind kind)
@@ -65,6 +74,10 @@ static struct call faultless(enum kind kind)
         return open_wait();
     if (kind == SHEET)
         return call_sheet(B, D, R, T, N, D);
+    if (kind == PARITY_ENCODE)
+        return parity_encoding(B, N, LOST_BLOCKS);
+    if (kind == PARITY_REBUILD)
+        return rebuilding();
     if (kind == LOAD)
         return file_load_call(&changing, LOADED);
     if (kind == BATCH)

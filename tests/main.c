@@ -71,6 +71,7 @@ int main(int count, char **words)
     test_causes();
     test_plans();
     test_sheets();
+    test_parity();
     test_times();
     test_lists(options.lists);
     if (!options.exact) {

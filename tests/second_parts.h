@@ -11,6 +11,7 @@
  *   second_audits.c        set-up, draw, judge, cause, the host's proof
  *   second_plans.c         positions, sheet
  *   second_times.c         the calendar, windows, wait
+ *   second_parity.c        parity: encode, rebuild
  */
 #ifndef SECOND_PARTS_H
 #define SECOND_PARTS_H
