@@ -48,4 +48,7 @@ void wipe(const char *name);
 void make_folders(const char *name);
 void remove_folders(const char *name);
 
+/* Goes to a folder. */
+void go_to(const char *folder);
+
 #endif

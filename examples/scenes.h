@@ -24,6 +24,9 @@ void dropped_line(void);
 /* A fifth car park, where surveyor, planner and manager try what is not theirs: roles.c. */
 void who_may(void);
 
+/* A sixth car park, with parity blocks as a file of their own: parity.c. */
+void parity_beside(void);
+
 /* The samples of so many hours, end to end, counted from a car park's first: which of its bays are taken, a byte for each. */
 struct bytes samples(unsigned bays, unsigned first_hour, unsigned hours);
 

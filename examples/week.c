@@ -1,7 +1,7 @@
 /*
  * One file's week: a car park's occupancy samples go to a storage host, one block a tick, a morning's corrections go there together, and
- * the host is audited. Then a new centre, which sends a month together, one with closed days, one that changes its file in two steps, and
- * one where not everybody may do everything.
+ * the host is audited. Then a new centre, which sends a month together, one with closed days, one that changes its file in two steps,
+ * one where not everybody may do everything, and one with parity beside its file.
  *
  * Owner and host are two folders of real files in a temporary folder: parties.h. The program ends with status 0 where every step came out
  * as a planner expects it.
@@ -181,6 +181,7 @@ int main(void)
     closed_days();
     dropped_line();
     who_may();
+    parity_beside();
     if (chdir("/") != 0 || rmdir(folder) != 0)
         stop("remove", folder);
     printf("\n%s\n", surprises() ? "Some steps did not come out as expected." : "Every step came out as expected.");

@@ -42,9 +42,9 @@ enum argument { MASTER, ID, BLOCKS, CARD, TABLE, SECOND, OLD, MARKS, NEW, ITEMS,
 struct call {
     enum kind kind;
     uint64_t role;                     /* of who makes a call that is lent a card, set-up apart */
-    uint64_t version, B, d, r, t, n;   /* of a set-up and of a sheet; positions takes r, d and n; of parity B and the data blocks n */
-    uint64_t m;                        /* the block number of an update or a deletion, asked too; the damaged rows of a sheet; of
-                                          parity the parity blocks */
+    uint64_t version, B, d, r, t, n;   /* of a set-up and of a sheet; positions takes r, d and n; of parity B, the data
+                                          blocks n and the parity blocks r */
+    uint64_t m;                        /* the block number of an update or a deletion, asked too; the damaged rows of a sheet */
     uint64_t year, month, day, minute; /* of a draw and of a wait */
     struct buffer lent[ARGUMENTS];
 };

@@ -7,7 +7,7 @@
 
 struct call parity_encoding(uint64_t B, uint64_t k, uint64_t p)
 {
-    struct call call = {.kind = PARITY_ENCODE, .B = B, .n = k, .m = p};
+    struct call call = {.kind = PARITY_ENCODE, .B = B, .n = k, .r = p};
     call.lent[BLOCKS] = buffer_blank(k * B);
     chance_bytes(call.lent[BLOCKS].bytes, k * B);
     call.lent[OUT] = buffer_blank(p * B);
@@ -16,8 +16,8 @@ struct call parity_encoding(uint64_t B, uint64_t k, uint64_t p)
 
 struct call parity_rebuilding(const struct call *encoding, const uint8_t *lost, size_t count)
 {
-    size_t B = encoding->B, k = encoding->n, p = encoding->m;
-    struct call call = {.kind = PARITY_REBUILD, .B = B, .n = k, .m = p}, encoded = call_copy(encoding);
+    size_t B = encoding->B, k = encoding->n, p = encoding->r;
+    struct call call = {.kind = PARITY_REBUILD, .B = B, .n = k, .r = p}, encoded = call_copy(encoding);
     call_second(&encoded);
     call.lent[BLOCKS] = buffer_blank((k + p) * B);
     memcpy(call.lent[BLOCKS].bytes, encoded.lent[BLOCKS].bytes, k * B);

@@ -45,12 +45,12 @@ static void expect_encoded(const struct call *call)
 {
     static uint8_t matrix[(K + P) * K];
     uint8_t *from[K], *parity[P];
-    matrix_of(call->n, call->m, matrix);
+    matrix_of(call->n, call->r, matrix);
     for (uint64_t q = 0; q < call->n; q++)
         from[q] = call->lent[BLOCKS].bytes + q * call->B;
-    for (uint64_t x = 0; x < call->m; x++)
+    for (uint64_t x = 0; x < call->r; x++)
         parity[x] = call->lent[OUT].bytes + x * call->B;
-    expect_products(call->B, call->n, call->m, matrix + call->n * call->n, from, parity, "parity");
+    expect_products(call->B, call->n, call->r, matrix + call->n * call->n, from, parity, "parity");
 }
 
 /* Expects the lost data that an accepted rebuilding left: ISA-L inverts the matrix of the kept data and of the lowest parity blocks left. */
@@ -60,8 +60,8 @@ static void expect_rebuilt(const struct call *call)
     const struct buffer *lost = &call->lent[LOST];
     uint64_t B = call->B, k = call->n, found = 0, count = 0;
     uint8_t *from[K], *data[K];
-    matrix_of(k, call->m, matrix);
-    for (uint64_t number = 0; number < k + call->m && found < k; number++)
+    matrix_of(k, call->r, matrix);
+    for (uint64_t number = 0; number < k + call->r && found < k; number++)
         if (!memchr(lost->bytes, (int)number, lost->length)) {
             memcpy(left + found * k, matrix + number * k, k);
             from[found++] = call->lent[BLOCKS].bytes + number * B;
@@ -212,7 +212,7 @@ static void any_calls(void)
         for (size_t j = 0; j < count; j++)
             lost[j] = (uint8_t)chance_below(k + p);
         struct call call = chance_of(3) ? call_copy(&encoding) : parity_rebuilding(&encoding, lost, count);
-        uint64_t *const numbers[] = {&call.B, &call.n, &call.m};
+        uint64_t *const numbers[] = {&call.B, &call.n, &call.r};
         if (chance_of(3))
             *numbers[chance_below(3)] = chance_of(2) ? chance_below(60) : chance();
         if (chance_of(4))
