@@ -8,7 +8,7 @@
 # make test               the gate: proves every crate, tries the edits that must be refused, runs the programs and the C tests
 # make compare            the C tests alone: the library against the second implementation
 # make chosen             prints which code the archive takes on this processor
-# make bench              times the library against the second implementation; the tables of docs/PERFORMANCE.md
+# make bench              times the library against the second implementation and ISA-L; the tables of docs/PERFORMANCE.md
 # make headline           times one great set-up, whole: 11,680 tokens of 512 positions over 4,096 blocks of 4,096 bytes
 # make prove              proves every crate that changed since it was last proved, and runs the programs
 .PHONY: week sheet lib install test compare chosen bench headline prove
