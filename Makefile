@@ -8,7 +8,7 @@
 # make test               the gate: proves every crate, tries the edits that must be refused, runs the programs and the C tests
 # make compare            the C tests alone: the library against the second implementation
 # make chosen             prints which code the archive takes on this processor
-# make bench              times the library against the second implementation; the tables of docs/PERFORMANCE.md
+# make bench              times the library against the second implementation and ISA-L; the tables of docs/PERFORMANCE.md
 # make headline           times one great set-up, whole: 11,680 tokens of 512 positions over 4,096 blocks of 4,096 bytes
 # make prove              proves every crate that changed since it was last proved, and runs the programs
 .PHONY: week sheet lib install test compare chosen bench headline prove
@@ -22,7 +22,7 @@ OUT := target/c$(CPU:%=-%)
 HEADERS := $(patsubst include/%,$(LIB)/%,$(wildcard include/*.h include/*/*.h))
 COMPILE = $(CC) -std=c99 -pedantic -Wall -Wextra $(CFLAGS) -I$(LIB)
 LINK = -L$(LIB) -llegbaro
-SHARED := $(wildcard tests/second_*.c) $(addprefix tests/,book.c calls.c files.c buffers.c chance.c groups.c hours.c)
+SHARED := $(wildcard tests/second_*.c) $(addprefix tests/,book.c calls.c files.c buffers.c chance.c groups.c hours.c parities.c)
 
 week: $(OUT)/week
 	@$(OUT)/week
@@ -68,9 +68,9 @@ compare: $(OUT)/tests
 	@$(OUT)/tests
 
 $(OUT)/tests: $(wildcard tests/*.c tests/*.h) $(LIB)/liblegbaro.a $(HEADERS)
-	@tools/needs cc libcrypto
+	@tools/needs cc libcrypto isal
 	@mkdir -p $(OUT)
-	$(COMPILE) -pthread $(filter %.c,$^) -o $@ $(LINK) -lcrypto
+	$(COMPILE) -pthread $(filter %.c,$^) -o $@ $(LINK) -lcrypto -lisal
 
 # These two know the codes of the archive by their own names, so they are for the archive that has them all.
 chosen: $(OUT)/chosen
@@ -88,9 +88,9 @@ headline: $(OUT)/bench
 	@$(OUT)/bench --headline
 
 $(OUT)/bench: $(wildcard bench/*.c bench/*.h) $(SHARED) $(wildcard tests/*.h) $(LIB)/liblegbaro.a $(HEADERS)
-	@tools/needs cc libcrypto
+	@tools/needs cc libcrypto isal
 	@mkdir -p $(OUT)
-	$(COMPILE) -Itests -I$(MODULE) $(filter %.c,$^) -o $@ $(LINK) -lcrypto
+	$(COMPILE) -Itests -I$(MODULE) $(filter %.c,$^) -o $@ $(LINK) -lcrypto -lisal
 
 prove:
 	rt check

@@ -1,12 +1,13 @@
 /*
  * Times set-up, proof, update, load and batch by each code of the archive and by the second implementation over libcrypto, and a load, a
- * batch or an ask beside the calls in whose place it stands; prints tables that can be pasted into docs/PERFORMANCE.md. What each code
+ * batch or an ask beside the calls in whose place it stands, and parity beside ISA-L; prints tables that can be pasted into docs/PERFORMANCE.md. What each code
  * writes is compared with the second implementation first. A code that the processor can't run is left out.
  *
  * libcrypto uses the processor's SHA instructions where it has them; a helper shows what it does without them. In each row all alternate, and
  * the best of each counts.
  *
  *   --beside     the tables of calls beside those in whose place they stand, alone
+ *   --parity     the table of parity alone
  *   --headline   one great set-up in place of the tables, whole: as the archive chooses, by the plain code, and by the second implementation
  */
 #define _XOPEN_SOURCE 700
@@ -18,6 +19,7 @@
 #include "groups.h"
 #include "helper.h"
 #include "loads.h"
+#include "parity.h"
 #include "proofs.h"
 #include "second.h"
 #include "times.h"
@@ -217,6 +219,7 @@ static void print_tables(const char *program, int only_beside)
     print_batches();
     print_asks();
     print_proofs();
+    print_parity();
     putchar('\n');
     group_end();
 }
@@ -247,6 +250,15 @@ static void print_headline(void)
     group_end();
 }
 
+static void print_parity_alone(void)
+{
+    group_begin("the library, the second implementation and ISA-L write the same");
+    print_processor();
+    print_parity();
+    putchar('\n');
+    group_end();
+}
+
 int main(int count, char **words)
 {
     const char *word = count == 2 ? words[1] : "";
@@ -257,6 +269,8 @@ int main(int count, char **words)
         help(helped);
     else if (!strcmp(word, "--headline"))
         print_headline();
+    else if (!strcmp(word, "--parity"))
+        print_parity_alone();
     else
         print_tables(words[0], !strcmp(word, "--beside"));
     second_end();

@@ -156,3 +156,9 @@ void remove_folders(const char *name)
     if (rmdir(name) != 0)
         stop("remove", name);
 }
+
+void go_to(const char *folder)
+{
+    if (chdir(folder) != 0)
+        stop("go to", folder);
+}

@@ -51,4 +51,7 @@ void remove_folders(const char *name);
 void leave_folders(void);
 void enter_folders(const char *name);
 
+/* Goes to a folder. */
+void go_to(const char *folder);
+
 #endif

@@ -40,6 +40,8 @@ void tell(const char *step, uint64_t result, uint64_t expected)
         [LEGBARO_NO_RIGHT] = "turned away: this role may not",
         [LEGBARO_BAD_BATCH] = "turned away: these items are no batch",
         [LEGBARO_BAD_POOL] = "turned away: these files are no pool",
+        [LEGBARO_BAD_GROUP] = "turned away: no group, or no lost blocks of it",
+        [LEGBARO_TOO_MANY_LOST] = "turned away: more are lost than can come back",
     };
     printf("  %-56s %s\n", step, results[LEGBARO_CODE(result)]);
     if (LEGBARO_CODE(result) != expected) {

@@ -27,6 +27,9 @@ void who_may(void);
 /* Three more car parks at one host, audited with one reply: chain.c. */
 void chain(void);
 
+/* One more car park, with parity blocks as a file of their own: parity.c. */
+void parity_beside(void);
+
 /* The samples of so many hours, end to end, counted from a car park's first: which of its bays are taken, a byte for each. */
 struct bytes samples(unsigned bays, unsigned first_hour, unsigned hours);
 

@@ -1,7 +1,7 @@
 /*
  * One file's week: a car park's occupancy samples go to a storage host, one block a tick, a morning's corrections go there together, and
  * the host is audited. Then a new centre, which sends a month together, one with closed days, one that changes its file in two steps, one
- * where not everybody may do everything, and a chain of three that is audited with one reply.
+ * where not everybody may do everything, a chain of three that is audited with one reply, and one with parity beside its file.
  *
  * Owner and host are two folders of real files in a temporary folder: parties.h. The program ends with status 0 where every step came out
  * as a planner expects it.
@@ -182,6 +182,7 @@ int main(void)
     dropped_line();
     who_may();
     chain();
+    parity_beside();
     if (chdir("/") != 0 || rmdir(folder) != 0)
         stop("remove", folder);
     printf("\n%s\n", surprises() ? "Some steps did not come out as expected." : "Every step came out as expected.");

@@ -8,13 +8,15 @@
  *   change    the owner fetches the table (and the blocks that change, with their marks), updates, deletes, appends, loads or does several
  *             updates and deletions in one batch, and sends the table back; in one step, or asked first and then committed or dropped
  *   audit     the owner draws a message and sends it; the host proves, with a reply; the owner judges the reply
+ *   mend      the owner rebuilds blocks that were lost from those that are left and their parity, which is a file of its own
  *
- * This file has what all calls share. The calls are in four parts, which it includes:
+ * This file has what all calls share. The calls are in five parts, which it includes:
  *
  *   legbaro/changes.h    set-up, update, delete, append, load, batch; the same five asked; commit, drop
  *   legbaro/audits.h     draw, wait, judge, cause; the host's proof
  *   legbaro/pools.h      one reply for several files: the judging, and the host's pooling
  *   legbaro/planning.h   positions, sheet
+ *   legbaro/parity.h     parity blocks beside a file: encode, rebuild
  *
  * A block has B bytes. Blocks are numbered from 1 and lie in d rows: block m in row ((m-1) mod d) + 1, column (m-1) div d.
  * A token draws r of the d rows, and covers every block in them. Each audit spends one of the t tokens.
@@ -180,6 +182,8 @@
 #define LEGBARO_TOO_MANY_DAMAGED 21   /* a sheet for more damaged rows than there are rows */
 #define LEGBARO_NO_RIGHT 22           /* there is no such role, or it may not make this call */
 #define LEGBARO_BAD_POOL 23           /* a pool of too few or too many files, or with a file id that occurs twice */
+#define LEGBARO_BAD_GROUP 24          /* a group of too few or too many blocks; a lost block that is named twice or is not in the group */
+#define LEGBARO_TOO_MANY_LOST 25      /* more blocks are lost than the group has parity blocks */
 
 /* The two parts of a result: the code, and the number, which is a token with LEGBARO_BAD_RECORD. */
 #define LEGBARO_CODE(result) ((result) % 256)
@@ -233,5 +237,6 @@
 #include "legbaro/audits.h"
 #include "legbaro/pools.h"
 #include "legbaro/planning.h"
+#include "legbaro/parity.h"
 
 #endif

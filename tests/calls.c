@@ -40,11 +40,13 @@ static const struct {
     [POSITIONS] = {"positions", 0, 0, 0},
     [WAIT] = {"wait", BIT(PLAN), 0, 0},
     [SHEET] = {"sheet", BIT(OUT), BIT(OUT), 0},
+    [PARITY_ENCODE] = {"parity encode", BIT(BLOCKS) | BIT(OUT), BIT(OUT), 0},
+    [PARITY_REBUILD] = {"parity rebuild", BIT(BLOCKS) | BIT(LOST) | BIT(OUT), BIT(OUT), 0},
 };
 
 static const char *const arguments[ARGUMENTS] = {"master",    "id",    "blocks",  "card", "table", "second table", "old block", "marks",
-                                                 "new block", "items", "message", "plan", "reply", "totals",       "sheet",     "cards",
-                                                 "replies",   "pooled reply"};
+                                                 "new block", "items", "message", "plan", "reply", "totals",       "out",       "cards",
+                                                 "replies",   "pooled reply", "lost"};
 
 static unsigned long counts[KINDS][LAST_CODE + 1];
 

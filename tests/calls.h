@@ -30,11 +30,13 @@ enum kind {
     POSITIONS,
     WAIT,
     SHEET,
+    PARITY_ENCODE,
+    PARITY_REBUILD,
     KINDS
 };
 
 /* The highest code of any call. */
-enum { LAST_CODE = LEGBARO_BAD_POOL };
+enum { LAST_CODE = LEGBARO_TOO_MANY_LOST };
 
 /* The buffers that calls are lent. A pooled judging is lent its reply as a judging is. */
 enum argument {
@@ -56,13 +58,15 @@ enum argument {
     CARDS,
     REPLIES,
     POOLED,
+    LOST,
     ARGUMENTS
 };
 
 struct call {
     enum kind kind;
     uint64_t role;                     /* of who makes a call that is lent a card, set-up apart */
-    uint64_t version, B, d, r, t, n;   /* of a set-up and of a sheet; positions takes r, d and n */
+    uint64_t version, B, d, r, t, n;   /* of a set-up and of a sheet; positions takes r, d and n; of parity B, the data
+                                          blocks n and the parity blocks r */
     uint64_t m;                        /* the block number of an update or a deletion, asked too; the damaged rows of a sheet */
     uint64_t year, month, day, minute; /* of a draw and of a wait */
     size_t place;                      /* in a list, where the file's own card lies among the cards of a pooled judging */

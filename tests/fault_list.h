@@ -12,11 +12,15 @@
 enum { B = 28, D = 5, R = 3, T = 3, N = 4, NOW_N = N + 3, NOW_CTR = 2, LOADED = 3, POOL_FILES = 3, POSITIONS_ANSWER = 4 };
 enum { FIRST_ITEM = 2, MIDDLE_ITEM = 4, LAST_ITEM = 6 };
 
+/* A group has N data blocks and as many parity blocks as blocks are lost, which are two: a data block and the first parity block. */
+enum { LOST_BLOCKS = 2, FIRST_LOST_BLOCK = 1, LAST_LOST_BLOCK = N };
+
 /* "Order: 1 for buffers of fixed size, 2, 3, 1 for sizes that follow from fields, then 8 or 9, 6, 4, 5, 10, 7", and the verdict or the
  * cause last; a load's 12 "just before 5"; the helper's 13 "after 3"; a batch's 14 "just before 4"; 15 "after the lengths that follow from
  * fields", "in a batch straight after 14"; of times "before everything else" 16, "and after 3 a draw outside every window (17)"; "straight
  * after 8" 18, and "then a commit or drop with nothing pending (19)"; of a sheet "after 3, m above d (21)"; "ahead of every
- * check" 22; "straight after 22" the cut of a pool's cards, which comes to 2 or to 1; of a pool "after 3" 23. */
+ * check" 22; "straight after 22" the cut of a pool's cards, which comes to 2 or to 1; of a pool "after 3" 23; of parity "straight after 3,
+ * a group outside these sizes or a lost block named twice or not in the group (24), then more losses than parity blocks (25)". */
 enum place {
     RIGHT,
     CUT,
@@ -29,6 +33,8 @@ enum place {
     DAMAGED_ROWS,
     POOL_FITS,
     WINDOWS,
+    GROUP,
+    LOSSES,
     SIZE,
     MARK,
     OPEN_OR_NOT,

@@ -5,7 +5,7 @@
 #include "fault_list.h"
 
 /* What a fault alters: the length of a buffer, which is named as the argument is, a number, a field of card, message, items or replies, what
- * is pending, a mark, record 2, or the id of a pool's card. */
+ * is pending, a mark, a lost block's number, record 2, or the id of a pool's card. */
 enum target {
     NUMBER_VERSION = ARGUMENTS,
     NUMBER_B,
@@ -59,6 +59,7 @@ enum target {
     LAST_REPLY_LENGTH,
     FIRST_REPLY_VERSION,
     LAST_REPLY_VERSION,
+    FIRST_LOST,
     TAG_OF_RECORD_2,
     CARD_ID,
     TARGETS

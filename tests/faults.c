@@ -5,6 +5,7 @@
 #include "files.h"
 #include "groups.h"
 #include "hours.h"
+#include "parities.h"
 #include "pooled.h"
 
 /* Three files of one version on which only a fault turns a call away, as far as the version goes. On `changing`, for changes, asks and
@@ -46,6 +47,14 @@ static struct call open_wait(void)
     return call;
 }
 
+static struct call rebuilding(void)
+{
+    static const uint8_t lost[LOST_BLOCKS] = {FIRST_LOST_BLOCK, LAST_LOST_BLOCK};
+    struct call encoding = parity_encoding(B, N, LOST_BLOCKS), call = parity_rebuilding(&encoding, lost, LOST_BLOCKS);
+    call_free(&encoding);
+    return call;
+}
+
 static struct call faultless(enum kind kind);
 
 static struct call faultless_ask(enum kind kind)
@@ -71,6 +80,10 @@ static struct call faultless(enum kind kind)
         return call_copy(&judging_pool);
     if (kind == POOL)
         return call_copy(&pooling);
+    if (kind == PARITY_ENCODE)
+        return parity_encoding(B, N, LOST_BLOCKS);
+    if (kind == PARITY_REBUILD)
+        return rebuilding();
     if (kind == LOAD)
         return file_load_call(&changing, LOADED);
     if (kind == BATCH)

@@ -72,6 +72,7 @@ int main(int count, char **words)
     test_pools();
     test_plans();
     test_sheets();
+    test_parity();
     test_times();
     test_lists(options.lists);
     if (!options.exact) {

@@ -58,6 +58,10 @@
         return before##_wait##behind(LENT(PLAN), LENT_TIME);                                                                   \
     case SHEET:                                                                                                                \
         return before##_sheet##behind(call->B, call->d, call->r, call->t, call->n, call->m, LENT(OUT));                        \
+    case PARITY_ENCODE:                                                                                                        \
+        return before##_parity_encode##behind(call->B, call->n, call->r, LENT(BLOCKS), LENT(OUT));                             \
+    case PARITY_REBUILD:                                                                                                       \
+        return before##_parity_rebuild##behind(call->B, call->n, call->r, LENT(BLOCKS), LENT(LOST), LENT(OUT));                \
     default:                                                                                                                   \
         return before##_positions##behind(call->r, call->d, call->n);                                                          \
     }

@@ -3,7 +3,7 @@
  * shares no code with the library, and takes the papers' letters: B bytes in a block, d rows, r positions, t tokens, n blocks.
  *
  *   second_start, second_end                the contexts of libcrypto that all else here uses
- *   second_set_up .. second_sheet           the calls, with the arguments of legbaro.h
+ *   second_set_up .. second_parity_rebuild  the calls, with the arguments of legbaro.h
  *   struct card, second_read_card, second_write_card, second_card_bytes   the numbers of a card, their bytes, and how many these are
  *   struct totals, second_add_totals        the work of a call, and its sums
  *   second_fresh_records                    the records of unused tokens, reckoned from the blocks
@@ -205,6 +205,15 @@ uint64_t second_wait(const uint8_t *plan, size_t plan_length,
                      uint64_t year, uint64_t month, uint64_t day, uint64_t minute);
 
 uint64_t second_sheet(uint64_t B, uint64_t d, uint64_t r, uint64_t t, uint64_t n, uint64_t m, uint8_t *out, size_t out_length);
+
+uint64_t second_parity_encode(uint64_t B, uint64_t k, uint64_t p,
+                              const uint8_t *data, size_t data_length,
+                              uint8_t *parity, size_t parity_length);
+
+uint64_t second_parity_rebuild(uint64_t B, uint64_t k, uint64_t p,
+                               const uint8_t *blocks, size_t blocks_length,
+                               const uint8_t *lost, size_t lost_length,
+                               uint8_t *data, size_t data_length);
 
 /* How many bytes a card of a version has; the numbers of so many bytes, whatever they are, and the bytes of numbers. */
 size_t second_card_bytes(uint64_t version);

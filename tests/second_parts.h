@@ -12,6 +12,7 @@
  *   second_pools.c         pooled replies: judged, and made by the host
  *   second_plans.c         positions, sheet
  *   second_times.c         the calendar, windows, wait
+ *   second_parity.c        parity: encode, rebuild
  */
 #ifndef SECOND_PARTS_H
 #define SECOND_PARTS_H

@@ -4,6 +4,7 @@
 
 #include "files.h"
 #include "groups.h"
+#include "parities.h"
 #include "pooled.h"
 
 #include <pthread.h>
@@ -86,11 +87,20 @@ static void stack_of_pools(void)
     buffer_free(&master);
 }
 
+static void stack_of_parity(void)
+{
+    static const uint8_t lost[] = {0, 1, 2, 3, 4, 5, 6, 7, 40, 41, 42, 43, 44, 45, 46, 47};
+    struct call encoding = parity_encoding(LEGBARO_MOST_BLOCK_BYTES, LEGBARO_MOST_DATA_BLOCKS, LEGBARO_MOST_PARITY_BLOCKS);
+    expect_small(parity_rebuilding(&encoding, lost, sizeof lost));
+    expect_small(encoding);
+}
+
 void test_stack(void)
 {
     group_begin("each call needs less than 64 KB of stack");
     for (uint64_t version = FIRST_VERSION; version <= LAST_VERSION; version++)
         stack_of_calls(version);
     stack_of_pools();
+    stack_of_parity();
     group_end();
 }

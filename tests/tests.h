@@ -56,6 +56,9 @@ void test_plans(void);
 /* Planning sheets: beside exact fractions, beside all draws of small files, at every edge. */
 void test_sheets(void);
 
+/* Parity: groups of every size beside ISA-L, every set of losses of small groups, damaged survivors, and lost blocks that are not read. */
+void test_parity(void);
+
 /* Every date of a hundred years, the wait for a window, and draws in and outside windows. */
 void test_times(void);
 

@@ -18,6 +18,8 @@ static const uint8_t items[2 * LEGBARO_ITEM_BYTES(LEGBARO_TWO_STEPS, B)] = {
 static const uint8_t plan[LEGBARO_PLAN_BYTES] = {0, 0, 0, 1};
 static uint8_t blocks[(D + 2) * B], card[LEGBARO_TWO_STEP_CARD_BYTES], table[T * LEGBARO_RECORD_BYTES], second[T * LEGBARO_RECORD_BYTES];
 static uint8_t message[LEGBARO_MESSAGE_BYTES], reply[LEGBARO_REPLY_BYTES], totals[LEGBARO_TOTALS_BYTES], sheet[LEGBARO_SHEET_BYTES];
+static const uint8_t lost[1] = {1};
+static uint8_t encoded[2 * B], rebuilt[D * B];
 
 /* Each answers the numbers of its calls in one, which is 0 where all were accepted. */
 static uint64_t changes(void)
@@ -77,6 +79,14 @@ static uint64_t pool(void)
     return numbers;
 }
 
+/* The blocks as a group of D data blocks and two parity blocks. */
+static uint64_t parity(void)
+{
+    uint64_t numbers = legbaro_parity_encode(B, D, 2, blocks, D * B, LENT(encoded));
+    numbers |= legbaro_parity_rebuild(B, D, 2, LENT(blocks), LENT(lost), LENT(rebuilt));
+    return numbers;
+}
+
 int main(void)
 {
     uint64_t numbers = changes();
@@ -85,5 +95,6 @@ int main(void)
     numbers |= pool();
     numbers |= LEGBARO_CODE(legbaro_positions(R, D, D - 1));
     numbers |= legbaro_sheet(B, D, R, T, D - 1, 1, LENT(sheet));
+    numbers |= parity();
     return numbers == LEGBARO_OK ? 0 : 1;
 }

@@ -1,0 +1,8 @@
+/* Parity beside ISA-L. */
+#ifndef BENCH_PARITY_H
+#define BENCH_PARITY_H
+
+/* Prints the table of encodings and rebuildings by each code, beside ISA-L's vector code and its portable code. */
+void print_parity(void);
+
+#endif
