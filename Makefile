@@ -1,17 +1,19 @@
-# make week               one file's week on real files, and a month in one load, told step by step: examples/
-# make sheet              a planning sheet: room, reading, work and risk of a file from its numbers. block_bytes= rows= positions= tokens= blocks=
-#                         damaged= tell others than the example's, picture=FILE.svg draws the risk
+# make                    the command legbaro, in target/c
+# make demo               a file's week told by the command's own words, in a scratch folder: command/demo
+# make week               one file's week in C on real files, and a month in one load, told step by step: examples/
+# make sheet              a planning sheet: room, reading, work and risk of a file from its numbers
 # make lib                the archive and its headers in target/legbaro: code for plain x86-64, with AVX2 and with AVX-512, and a choice between them
 # make lib CPU=NAME       the archive with one code alone, in target/legbaro-NAME; NAME is x86-64, avx2 or avx512
-#                         CPU=NAME goes with week, install and compare too
-# make install PREFIX=    headers, archive and pkg-config file below PREFIX, /usr/local where none is given
+#                         CPU=NAME goes with command, demo, week, install and compare too
+# make install PREFIX=    command, manual page, bash completion, headers, archive and pkg-config file below PREFIX, /usr/local where none is given
 # make test               the gate: proves every crate, tries the edits that must be refused, runs the programs and the C tests
 # make compare            the C tests alone: the library against the second implementation
+# make try-command        the command's tests alone: command/tests
 # make chosen             prints which code the archive takes on this processor
 # make bench              times the library against the second implementation and ISA-L; the tables of docs/PERFORMANCE.md
 # make headline           times one great set-up, whole: 11,680 tokens of 512 positions over 4,096 blocks of 4,096 bytes
 # make prove              proves every crate that changed since it was last proved, and runs the programs
-.PHONY: week sheet lib install test compare chosen bench headline prove
+.PHONY: command demo try-command week sheet lib install test compare chosen bench headline prove
 
 PREFIX ?= /usr/local
 CFLAGS ?= -O2
@@ -24,6 +26,23 @@ COMPILE = $(CC) -std=c99 -pedantic -Wall -Wextra $(CFLAGS) -I$(LIB)
 LINK = -L$(LIB) -llegbaro
 SHARED := $(wildcard tests/second_*.c) $(addprefix tests/,book.c calls.c files.c buffers.c chance.c groups.c hours.c parities.c)
 
+command: $(OUT)/legbaro
+
+$(OUT)/legbaro: $(wildcard command/*.c command/*.h) $(LIB)/liblegbaro.a $(HEADERS)
+	@tools/needs cc
+	@mkdir -p $(OUT)
+	$(COMPILE) $(filter %.c,$^) -o $@ $(LINK) -lm
+
+demo: $(OUT)/legbaro
+	@command/demo $<
+
+try-command: $(OUT)/legbaro $(OUT)/shim.so
+	@command/tests/all $(OUT)/legbaro $(OUT)/shim.so
+
+$(OUT)/shim.so: command/tests/shim.c
+	@mkdir -p $(OUT)
+	$(CC) -std=c99 -pedantic -Wall -Wextra $(CFLAGS) -shared -fPIC $< -o $@ -ldl
+
 week: $(OUT)/week
 	@$(OUT)/week
 
@@ -32,15 +51,8 @@ $(OUT)/week: $(wildcard examples/*.c examples/*.h) $(LIB)/liblegbaro.a $(HEADERS
 	@mkdir -p $(OUT)
 	$(COMPILE) $(filter %.c,$^) -o $@ $(LINK)
 
-SHEET_WORDS := block_bytes rows positions tokens blocks damaged picture
-
-sheet: $(OUT)/sheet
-	@$(OUT)/sheet $(foreach word,$(SHEET_WORDS),$(if $(findstring command,$(origin $(word))),$(word)=$($(word))))
-
-$(OUT)/sheet: $(wildcard examples/sheet/*.c examples/sheet/*.h) $(LIB)/liblegbaro.a $(HEADERS)
-	@tools/needs cc
-	@mkdir -p $(OUT)
-	$(COMPILE) $(filter %.c,$^) -o $@ $(LINK) -lm
+sheet: $(OUT)/legbaro
+	@$< sheet
 
 lib: $(LIB)/liblegbaro.a $(HEADERS)
 	@echo "$(LIB)/liblegbaro.a: $$(wc -c < $(LIB)/liblegbaro.a) bytes"
@@ -54,7 +66,10 @@ $(LIB)/liblegbaro.a: $(MODULE)/legbaro.ll tools/archive tools/choose.c tools/pro
 $(HEADERS): $(LIB)/%: include/%
 	install -D -m 644 $< $@
 
-install: lib
+install: lib command
+	install -D -m 755 $(OUT)/legbaro $(DESTDIR)$(PREFIX)/bin/legbaro
+	install -D -m 644 command/legbaro.1 $(DESTDIR)$(PREFIX)/share/man/man1/legbaro.1
+	install -D -m 644 command/completion.bash $(DESTDIR)$(PREFIX)/share/bash-completion/completions/legbaro
 	install -D -m 644 -t $(DESTDIR)$(PREFIX)/include $(LIB)/legbaro.h
 	install -D -m 644 -t $(DESTDIR)$(PREFIX)/include/legbaro $(LIB)/legbaro/*.h
 	install -D -m 644 $(LIB)/liblegbaro.a $(DESTDIR)$(PREFIX)/lib/liblegbaro.a

@@ -1,35 +1,19 @@
 /* See numbers.h. */
 #include "numbers.h"
+#include "files.h"
 
 #include <inttypes.h>
-#include <stdio.h>
-
-enum { TEXTS = 16, TEXT_BYTES = 40 };
-
-static char *text(void)
-{
-    static char texts[TEXTS][TEXT_BYTES];
-    static unsigned next;
-    return texts[next++ % TEXTS];
-}
-
-static uint64_t number_at(const uint8_t *bytes)
-{
-    uint64_t number = 0;
-    for (int i = 0; i < 8; i++)
-        number = number << 8 | bytes[i];
-    return number;
-}
+#include <string.h>
 
 uint64_t sheet_of(const struct numbers *of, struct sheet *sheet)
 {
     uint8_t out[LEGBARO_SHEET_BYTES] = {0};
     uint64_t code = legbaro_sheet(of->block_bytes, of->rows, of->positions, of->tokens, of->blocks, of->damaged, out, sizeof out);
-    sheet->table = number_at(out + LEGBARO_SHEET_TABLE);
-    sheet->turns = number_at(out + LEGBARO_SHEET_TURNS);
-    sheet->least = number_at(out + LEGBARO_SHEET_LEAST);
-    sheet->most = number_at(out + LEGBARO_SHEET_MOST);
-    sheet->escape = number_at(out + LEGBARO_SHEET_ESCAPE);
+    sheet->table = number_at(out + LEGBARO_SHEET_TABLE, 8);
+    sheet->turns = number_at(out + LEGBARO_SHEET_TURNS, 8);
+    sheet->least = number_at(out + LEGBARO_SHEET_LEAST, 8);
+    sheet->most = number_at(out + LEGBARO_SHEET_MOST, 8);
+    sheet->escape = number_at(out + LEGBARO_SHEET_ESCAPE, 8);
     return code;
 }
 
@@ -50,21 +34,19 @@ uint64_t most_positions(const struct numbers *of)
 
 const char *grouped(uint64_t number)
 {
-    char digits[TEXT_BYTES], *at = text(), *start = at;
-    int length = snprintf(digits, sizeof digits, "%" PRIu64, number);
-    for (int i = 0; i < length; i++) {
+    const char *digits = text("%" PRIu64, number);
+    size_t length = strlen(digits);
+    char *start = (char *)room(2 * length + 1).at, *at = start;
+    for (size_t i = 0; i < length; i++) {
         if (i && (length - i) % 3 == 0)
             *at++ = ',';
         *at++ = digits[i];
     }
-    *at = 0;
     return start;
 }
 
 const char *percent(uint64_t escape)
 {
-    char *at = text();
     uint64_t thousandths = (escape * 100000 + LEGBARO_ESCAPE_ONE - 1) / LEGBARO_ESCAPE_ONE;
-    snprintf(at, TEXT_BYTES, "%" PRIu64 ".%03" PRIu64 " %%", thousandths / 1000, thousandths % 1000);
-    return at;
+    return text("%" PRIu64 ".%03" PRIu64 " %%", thousandths / 1000, thousandths % 1000);
 }

@@ -25,8 +25,7 @@ uint64_t escape_of(const struct numbers *of, uint64_t positions, uint64_t damage
 /* The most positions that the file's rows allow. */
 uint64_t most_positions(const struct numbers *of);
 
-/* A number with commas, and a chance in thousandths of a percent, rounded up, so that it is never under the exact one either. Each is good
- * until sixteen further ones were asked for. */
+/* A number with commas, and a chance in thousandths of a percent, rounded up, so that it is never under the exact one either. */
 const char *grouped(uint64_t number);
 const char *percent(uint64_t escape);
 

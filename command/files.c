@@ -1,0 +1,180 @@
+/* See files.h: memory, and files that are read. */
+#define _GNU_SOURCE
+#include "files.h"
+#include "report.h"
+
+#include "legbaro.h"
+
+#include <errno.h>
+#include <fcntl.h>
+#include <inttypes.h>
+#include <stdarg.h>
+#include <stdio.h>
+#include <stdlib.h>
+#include <string.h>
+#include <sys/file.h>
+#include <sys/mman.h>
+#include <sys/stat.h>
+#include <unistd.h>
+
+/* ---- Memory ---- */
+
+/* What room gave out, one behind the other. */
+static union held {
+    union held *next;
+    long double aligned;
+} *held;
+
+static void give_back(void)
+{
+    while (held) {
+        union held *next = held->next;
+        free(held);
+        held = next;
+    }
+}
+
+static void no_memory(size_t length)
+{
+    refuse(BAD_FILE, "Nothing has changed.", "there is no memory for %zu bytes", length);
+}
+
+struct bytes room(size_t length)
+{
+    union held *taken = length < SIZE_MAX - sizeof *taken ? calloc(1, sizeof *taken + length) : NULL;
+    struct bytes bytes = {(uint8_t *)(taken + 1), length};
+    if (!taken)
+        no_memory(length);
+    if (!held)
+        atexit(give_back);
+    taken->next = held;
+    held = taken;
+    return bytes;
+}
+
+struct bytes shared_room(size_t length)
+{
+    void *at = mmap(NULL, length ? length : 1, PROT_READ | PROT_WRITE, MAP_SHARED | MAP_ANONYMOUS, -1, 0);
+    struct bytes bytes = {at, length};
+    if (at == MAP_FAILED)
+        no_memory(length);
+    return bytes;
+}
+
+char *text(const char *format, ...)
+{
+    va_list values;
+    va_start(values, format);
+    int length = vsnprintf(NULL, 0, format, values);
+    va_end(values);
+    char *words = (char *)room((size_t)length + 1).at;
+    va_start(values, format);
+    vsnprintf(words, (size_t)length + 1, format, values);
+    va_end(values);
+    return words;
+}
+
+uint64_t number_at(const uint8_t *at, unsigned width)
+{
+    uint64_t number = 0;
+    for (unsigned i = 0; i < width; i++)
+        number = number << 8 | at[i];
+    return number;
+}
+
+void put_number(uint8_t *at, unsigned width, uint64_t number)
+{
+    for (unsigned i = width; i-- > 0; number >>= 8)
+        at[i] = (uint8_t)number;
+}
+
+/* ---- Files that are read ---- */
+
+struct bytes map_file(const char *path)
+{
+    static uint8_t nothing[1];
+    struct bytes bytes = {nothing, 0};
+    struct stat status;
+    int file = open(path, O_RDONLY | O_CLOEXEC);
+    if (file < 0 || fstat(file, &status) != 0)
+        file_fault("read", path);
+    if (!S_ISREG(status.st_mode)) {
+        errno = S_ISDIR(status.st_mode) ? EISDIR : EINVAL;
+        file_fault("read", path);
+    }
+    bytes.length = (size_t)status.st_size;
+    if (bytes.length) {
+        void *at = mmap(NULL, bytes.length, PROT_READ, MAP_PRIVATE, file, 0);
+        if (at == MAP_FAILED)
+            file_fault("read", path);
+        bytes.at = at;
+    }
+    close(file);
+    return bytes;
+}
+
+struct bytes map_whole(const char *path, uint64_t length, const char *what, const char *next)
+{
+    struct bytes bytes = map_file(path);
+    if (bytes.length == length)
+        return bytes;
+    about(path);
+    field("code", LEGBARO_WRONG_LENGTH);
+    refuse(TURNED_AWAY, next, "%s has %zu bytes, and %s has %" PRIu64 " (code %d)", path, bytes.length, what, length, LEGBARO_WRONG_LENGTH);
+    return bytes;
+}
+
+struct bytes copy_of(struct bytes mapped)
+{
+    struct bytes copy = shared_room(mapped.length);
+    memcpy(copy.at, mapped.at, mapped.length);
+    return copy;
+}
+
+/* ---- Folders ---- */
+
+/* Makes a folder where it is missing; its name is on the disk then. */
+static void make_folder(const char *path)
+{
+    if (mkdir(path, 0700) != 0) {
+        if (errno != EEXIST)
+            file_fault("make", path);
+        return;
+    }
+    int above = open(text("%s/..", path), O_RDONLY | O_DIRECTORY | O_CLOEXEC);
+    if (above < 0)
+        file_fault("store the name of", path);
+    sync_file(above, path);
+    close(above);
+}
+
+struct folder lock_folder(const char *path, int make)
+{
+    struct folder folder = {path, -1};
+    if (make)
+        make_folder(path);
+    folder.at = open(path, O_RDONLY | O_DIRECTORY | O_CLOEXEC);
+    if (folder.at < 0)
+        file_fault("open the folder", path);
+    if (flock(folder.at, LOCK_EX | LOCK_NB) != 0) {
+        if (errno != EWOULDBLOCK)
+            file_fault("lock the folder", path);
+        about(path);
+        refuse(TURNED_AWAY, "Wait until it has ended, and run this one again.", "another command is at work in %s", path);
+    }
+    return folder;
+}
+
+char *path_in(const char *folder, const char *name)
+{
+    size_t length = strlen(folder);
+    if (!strcmp(folder, "."))
+        return text("%s", name);
+    return text(length && folder[length - 1] == '/' ? "%s%s" : "%s/%s", folder, name);
+}
+
+int is_in(const struct folder *folder, const char *name)
+{
+    struct stat status;
+    return fstatat(folder->at, name, &status, AT_SYMLINK_NOFOLLOW) == 0;
+}

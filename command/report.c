@@ -1,0 +1,184 @@
+/* See report.h. */
+#define _GNU_SOURCE
+#include "report.h"
+#include "codes.h"
+#include "files.h"
+#include "legbaro.h"
+
+#include <errno.h>
+#include <inttypes.h>
+#include <stdarg.h>
+#include <stdio.h>
+#include <stdlib.h>
+#include <string.h>
+
+enum { MOST_FIELDS = 24 };
+
+/* A field is a text, or a number where there is none. */
+static struct {
+    const char *name, *words;
+    uint64_t number;
+} fields[MOST_FIELDS];
+
+static int count, json;
+static const char *command = "", *stands, *subject;
+
+void report_as(const char *name, int as_json)
+{
+    command = name;
+    json = as_json;
+}
+
+void about(const char *file)
+{
+    subject = file;
+}
+
+void decided(const char *what_stands)
+{
+    stands = what_stands;
+}
+
+void say(const char *format, ...)
+{
+    va_list values;
+    if (json)
+        return;
+    va_start(values, format);
+    vprintf(format, values);
+    va_end(values);
+    putchar('\n');
+}
+
+/* The place of a field: its own where it was told before. */
+static int place_of(const char *name)
+{
+    int i = 0;
+    while (i < count && strcmp(fields[i].name, name))
+        i++;
+    if (i == MOST_FIELDS)
+        abort();
+    if (i == count)
+        fields[count++].name = name;
+    return i;
+}
+
+void field(const char *name, uint64_t number)
+{
+    int i = place_of(name);
+    fields[i].words = NULL;
+    fields[i].number = number;
+}
+
+void field_text(const char *name, const char *words)
+{
+    fields[place_of(name)].words = words;
+}
+
+static void print_text(const char *words)
+{
+    putchar('"');
+    for (const char *at = words; *at; at++)
+        if ((unsigned char)*at < ' ')
+            printf("\\u%04x", (unsigned)*at);
+        else if (*at == '"' || *at == '\\')
+            printf("\\%c", *at);
+        else
+            putchar(*at);
+    putchar('"');
+}
+
+/* Programs know names with '_' better than with '-'. */
+static void print_name(const char *name)
+{
+    putchar('"');
+    for (; *name; name++)
+        putchar(*name == '-' ? '_' : *name);
+    putchar('"');
+}
+
+int ended(enum status status)
+{
+    if (json) {
+        fputs("{\"command\": ", stdout);
+        print_text(command);
+        printf(", \"status\": %d", (int)status);
+        for (int i = 0; i < count; i++) {
+            fputs(", ", stdout);
+            print_name(fields[i].name);
+            fputs(": ", stdout);
+            if (fields[i].words)
+                print_text(fields[i].words);
+            else
+                printf("%" PRIu64, fields[i].number);
+        }
+        puts("}");
+        json = 0;
+    }
+    if (fflush(stdout) != 0)
+        file_fault("write", "standard output");
+    return (int)status;
+}
+
+/* ---- Refusals ---- */
+
+static void refuse_in_words(enum status status, const char *next, const char *what)
+{
+    if (json) {
+        if (subject)
+            field_text("about", subject);
+        field_text("message", what);
+        field_text("next", next);
+    } else {
+        fflush(stdout);
+        fprintf(stderr, "legbaro: %s.\n%s%s\n", what, *next ? "  " : "", next);
+    }
+    exit(ended(status));
+}
+
+void refuse(enum status status, const char *next, const char *format, ...)
+{
+    char what[1024];
+    va_list values;
+    va_start(values, format);
+    vsnprintf(what, sizeof what, format, values);
+    va_end(values);
+    refuse_in_words(status, next, what);
+}
+
+void turn_away(uint64_t result, const char *file)
+{
+    uint64_t code = LEGBARO_CODE(result), number = LEGBARO_NUMBER(result);
+    about(file);
+    field("code", code);
+    if (code == LEGBARO_BAD_RECORD) {
+        field("token", number);
+        refuse(TURNED_AWAY, code_next(code), "%s: record %" PRIu64 " does not open (code %" PRIu64 ")", file, number, code);
+    }
+    refuse(TURNED_AWAY, code_next(code), "%s: %s (code %" PRIu64 ")", file, code_words(code), code);
+}
+
+/* What to do about a file that can't be read or written, while nothing is decided. */
+static const char *fault_next(int fault)
+{
+    switch (fault) {
+    case ENOENT:
+        return "Look whether the path is right; -C names the folder. Nothing has changed.";
+    case EACCES:
+    case EPERM:
+    case EROFS:
+        return "Look who may read and write it. Nothing has changed.";
+    case ENOSPC:
+    case EDQUOT:
+        return "The disk is full: make room, and run the command again. Nothing has changed.";
+    default:
+        return "Nothing has changed.";
+    }
+}
+
+void file_fault(const char *tried, const char *path)
+{
+    int fault = errno;
+    about(path);
+    refuse(BAD_FILE, stands ? stands : fault_next(fault), "can't %s %s: %s", tried, path, strerror(fault));
+}

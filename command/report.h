@@ -1,0 +1,38 @@
+/* What a command says, in words for people or as one JSON object for programs, and how it ends. */
+#ifndef REPORT_H
+#define REPORT_H
+
+#include <stdint.h>
+
+/* The exit status. */
+enum status { DONE, REJECTED, TURNED_AWAY, WRONG_USE, BAD_FILE };
+
+/* Names the command, once its words are known, and whether it prints JSON. */
+void report_as(const char *command, int json);
+
+/* A line for people, on standard output; nothing with JSON. */
+void say(const char *format, ...);
+
+/* A field of the JSON object; nothing without JSON. The texts are kept until the end. */
+void field(const char *name, uint64_t number);
+void field_text(const char *name, const char *words);
+
+/* Prints the object where JSON is asked for, and answers the status. */
+int ended(enum status status);
+
+/* What can no longer be undone is told in the place of 'Nothing has changed.' when a file can't be written from now on. */
+void decided(const char *what_stands);
+
+/* What a refusal is about, a file or an option: the field `about` of the object. */
+void about(const char *file);
+
+/* Each ends the program. A refusal in words: what was wrong, and what to do next. */
+void refuse(enum status status, const char *next, const char *format, ...);
+
+/* The same for a result of the library that is not 0: its code in words, and what it is about. */
+void turn_away(uint64_t result, const char *file);
+
+/* A file can't be read or written: what was tried, and why not by errno. */
+void file_fault(const char *tried, const char *path);
+
+#endif
