@@ -9,7 +9,7 @@
 #include <stdlib.h>
 #include <string.h>
 
-enum { K = LEGBARO_MOST_DATA_BLOCKS, P = LEGBARO_MOST_PARITY_BLOCKS, SMALL_K = 5, SMALL_P = 3, TRIED = 4000, EXACTLY_TRIED = 20 };
+enum { K = LEGBARO_MOST_DATA_BLOCKS, P = LEGBARO_MOST_PARITY_BLOCKS, SMALL_K = 5, SMALL_P = 3, TRIED = 4000, EXACTLY_TRIED = 20, SIZE_TRIED = 28 };
 
 /* ---- ISA-L ---- */
 
@@ -226,8 +226,40 @@ static void any_calls(void)
     group_end();
 }
 
+/* ---- Refusals ---- */
+
+/* A rebuilding of a group of three data blocks and two parity blocks, of which so many are lost. */
+static void lost_blocks(const uint8_t *lost, size_t count, uint64_t code, const char *what)
+{
+    struct call encoding = parity_encoding(SIZE_TRIED, 3, 2), call = parity_rebuilding(&encoding, (const uint8_t *)"", 0);
+    buffer_free(&call.lent[LOST]);
+    call.lent[LOST] = buffer_of(lost, count);
+    call_finish(&call, code, what);
+    call_free(&encoding);
+}
+
+/* Code 24's small inputs: no data block, 17 parity blocks, a lost block named twice, one not in the group. Code 25's: three lost, p 2. */
+static void broken_groups(void)
+{
+    group_begin("the small inputs of codes 24 and 25");
+    struct call call = parity_encoding(SIZE_TRIED, 0, 1);
+    call_finish(&call, LEGBARO_BAD_GROUP, "no data block");
+
+    call = parity_encoding(SIZE_TRIED, 1, LEGBARO_MOST_PARITY_BLOCKS + 1);
+    call_finish(&call, LEGBARO_BAD_GROUP, "17 parity blocks");
+
+    lost_blocks((const uint8_t[]){1, 1}, 2, LEGBARO_BAD_GROUP, "a lost block named twice");
+    lost_blocks((const uint8_t[]){5}, 1, LEGBARO_BAD_GROUP, "a lost block not in the group");
+    lost_blocks((const uint8_t[]){0, 1, 2, 1}, 4, LEGBARO_BAD_GROUP, "too many lost, one of them named twice");
+    lost_blocks((const uint8_t[]){0, 1, 2}, 3, LEGBARO_TOO_MANY_LOST, "three lost, p 2");
+    lost_blocks((const uint8_t[]){4, 0}, 2, LEGBARO_OK, "two lost, p 2");
+    lost_blocks((const uint8_t *)"", 0, LEGBARO_OK, "none lost");
+    group_end();
+}
+
 void test_parity(void)
 {
+    broken_groups();
     small_groups();
     every_size();
     random_groups();

@@ -5,7 +5,6 @@
 #include "groups.h"
 #include "hours.h"
 #include "pooled.h"
-#include "parities.h"
 
 enum { B = 28, D = 5, R = 3, T = 3 };
 
@@ -133,33 +132,6 @@ static void too_many_damaged(void)
 
     call = call_sheet(B, D, R, T, D, D);
     call_finish(&call, LEGBARO_OK, "d 5, m 5");
-}
-
-/* A rebuilding of a group of three data blocks and two parity blocks, of which so many are lost. */
-static void lost_blocks(const uint8_t *lost, size_t count, uint64_t code, const char *what)
-{
-    struct call encoding = parity_encoding(B, 3, 2), call = parity_rebuilding(&encoding, (const uint8_t *)"", 0);
-    buffer_free(&call.lent[LOST]);
-    call.lent[LOST] = buffer_of(lost, count);
-    call_finish(&call, code, what);
-    call_free(&encoding);
-}
-
-/* Code 24's small inputs: no data block, 17 parity blocks, a lost block named twice, one not in the group. Code 25's: three lost, p 2. */
-static void broken_groups(void)
-{
-    struct call call = parity_encoding(B, 0, 1);
-    call_finish(&call, LEGBARO_BAD_GROUP, "no data block");
-
-    call = parity_encoding(B, 1, LEGBARO_MOST_PARITY_BLOCKS + 1);
-    call_finish(&call, LEGBARO_BAD_GROUP, "17 parity blocks");
-
-    lost_blocks((const uint8_t[]){1, 1}, 2, LEGBARO_BAD_GROUP, "a lost block named twice");
-    lost_blocks((const uint8_t[]){5}, 1, LEGBARO_BAD_GROUP, "a lost block not in the group");
-    lost_blocks((const uint8_t[]){0, 1, 2, 1}, 4, LEGBARO_BAD_GROUP, "too many lost, one of them named twice");
-    lost_blocks((const uint8_t[]){0, 1, 2}, 3, LEGBARO_TOO_MANY_LOST, "three lost, p 2");
-    lost_blocks((const uint8_t[]){4, 0}, 2, LEGBARO_OK, "two lost, p 2");
-    lost_blocks((const uint8_t *)"", 0, LEGBARO_OK, "none lost");
 }
 
 /* Codes 16 and 17's small inputs: 31 November, minute 1,440, a draw with no window. */
@@ -389,7 +361,6 @@ static void small_inputs(uint64_t version)
     outside_limits(version);
     too_many_positions();
     too_many_damaged();
-    broken_groups();
     most_items(version);
     two_files(version);
     last_token_drawn(version);
