@@ -4,8 +4,9 @@
 
 #include "numbers.h"
 
-/* Writes an SVG file: against the positions, the chance of escape for several losses, and the hashes of a proof, with the planned ones
- * marked. The numbers are ones that the library takes. */
+/* Writes an SVG file with three plots, the planned numbers marked in each: the chance of escape against the positions for several losses,
+ * the chance against the damaged rows for several positions, and the hashes of a proof against the positions. The numbers are ones that
+ * the library takes. */
 void write_picture(const char *path, const struct numbers *of);
 
 #endif
