@@ -13,30 +13,30 @@ use Rattle.permutation.proofs.unround_in.Tie as tie
 small : (c : tie.Start) → c .args .q * 1024 + c .args .x .high < 8192
 small c = read-small (c .args .h) (c .args .q) (c .args .x .high) (c .pre .0) (c .pre .1) (c .pre .2)
 
-mul-m : tie.Need-mul-m
-mul-m c = search needs
+mul-f : tie.Need-mul-f
+mul-f c = search needs
 
-add-m : tie.Need-add-m
-add-m c = omega (arith, small c)
+add-f : tie.Need-add-f
+add-f c = omega (arith, small c)
 
-mul-m-2 : tie.Need-mul-m-2
-mul-m-2 c = omega (arith, small c)
+mul-f-2 : tie.Need-mul-f-2
+mul-f-2 c = omega (arith, small c)
 
-shared-slice-read-m : tie.Need-shared-slice-read-m
-shared-slice-read-m c = omega (arith, small (c .before), c .before .pre .4 .long)
+shared-slice-read-f : tie.Need-shared-slice-read-f
+shared-slice-read-f c = omega (arith, small (c .before), c .before .pre .4 .long)
 
-cast-m : tie.Need-cast-m
-cast-m c = omega (arith, c .shared-slice-known .given (c .before .args .q * 1024 + c .before .args .x .high))
+cast-f : tie.Need-cast-f
+cast-f c = omega (arith, c .shared-slice-known .given (c .before .args .q * 1024 + c .before .args .x .high))
 
 returns : tie.Need-returns
 returns c =
-    let s = c .before .before in
+    let s = c .before in
     let a = s .args in
     let l = a .x .high in
     let r = a .x .low in
     let p = s .pre in
-    let made = made-is (roundFunction (a .key) (a .h)) (a .h) (within (a .key) (a .h)) (a .q) l r (p .2) (p .3) _ (p .4 .values (a .q) l (p .1) (p .2)) in
+    let made = made-is (roundFunction (a .key) (a .h)) (a .h) (within (a .key) (a .h)) (a .q) l r _ (p .3) (p .4 .values (a .q) l (p .1) (p .2)) in
     ((made .0, p .2), made .1)
 
 pub unround-in-spec : {M : Type 1} → statement M
-unround-in-spec = tie.close (tie.spec mul-m add-m mul-m-2 shared-slice-read-m cast-m returns)
+unround-in-spec = tie.close (tie.spec mul-f add-f mul-f-2 shared-slice-read-f cast-f returns)
