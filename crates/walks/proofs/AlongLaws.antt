@@ -3,7 +3,7 @@
 --   along-none               the turns from no row
 --   along-one, along-group   .. from one row more, and from a group of rows more
 --   along-most               what they are at most
-use mathlib.Core.Path.{_≡_, refl, sym, ap, ap₂, _∙_}
+use mathlib.Core.Path.{_≡_, refl, sym, ap, _∙_}
 use mathlib.Core.List.{List}
 use Prim.Native.Nat.{ℕ, _+_, _*_, _%_, _≤_, _<_}
 use native.Mathlib.Omega.{arith}

@@ -27,7 +27,7 @@ use Rattle.walks.specs.Along.{Reached, Underway, Kept, Passed}
 use Rattle.walks.proofs.EachLaws.{set-more}
 use Rattle.walks.proofs.SumLaws.{sum-before, sum-more}
 use Rattle.walks.proofs.PlaceLaws.{one-at-most}
-use Rattle.walks.proofs.CourseLaws.{wide, ahead-is, ahead-home, turns-none, turns-more}
+use Rattle.walks.proofs.CourseLaws.{wide, ahead-is, ahead-home, turns-more}
 
 module _ (key : List ℕ) (d : ℕ) where
   pub reached-row : {v : ℕ} → v < d → Reached key d v

@@ -5,7 +5,7 @@
 --   Kept d v still vs r ws                ws is vs with v written behind the first still elements; where the walk that is at v goes on, it is one of the first r
 --   Passed key d n us vs still at         of n walks at us the first at have taken a turn: the first still elements of vs are where those are that go on,
 --                                         and the others stand in vs as they do in us
---   Onward key d n vs still at r next ws  walks that have come so far in vs have come so far in ws
+--   Onward key d n vs still at r next ws  where walks have passed so in vs, still and at, they have passed in ws, r and next
 use mathlib.Core.Path.{_≡_}
 use mathlib.Core.Bool.{cond}
 use mathlib.Core.Logic.{_⊎_}

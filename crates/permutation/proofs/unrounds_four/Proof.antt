@@ -1,8 +1,8 @@
 -- Each of the four is undone as one is: what is left of its rounds leads where the eight lead (Undoing).
 use borrow.Author.Needs.{needs}
 use native.Mathlib.Omega.{arith}
-use mathlib.Core.Path.{_≡_, refl, ap, _∙_}
-use Prim.Native.Nat.{ℕ, _≤_}
+use mathlib.Core.Path.{_≡_}
+use Prim.Native.Nat.{_≤_}
 use lib.Dec.{lit<}
 use lib.ListN.{getD}
 use Rattle.permutation.specs.Rounds.{joined, unrounds}

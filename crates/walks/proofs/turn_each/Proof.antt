@@ -1,5 +1,4 @@
 -- The walks so far have taken their turn (Passed), four more or one more by what turn_four and turn_one ensure.
-use borrow.Author.Needs.{needs}
 use native.Mathlib.Omega.{arith}
 use Prim.Native.Nat.{_-_}
 use mathlib.Core.Path.{_≡_, refl}

@@ -2,10 +2,9 @@
 use borrow.Author.Needs.{needs}
 use native.Mathlib.Omega.{arith}
 use Prim.Native.Nat.{ℕ, _+_, _-_, _≤_}
-use mathlib.Core.Path.{_≡_, refl, sym, ap, _∙_, subst}
+use mathlib.Core.Path.{_≡_, sym, ap, _∙_, subst}
 use lib.ListN.{length}
 use Rattle.permutation.specs.Table.{Whole}
-use Rattle.walks.specs.Each.{turnsOf}
 use Rattle.walks.specs.Along.{turnsAlong}
 use Rattle.walks.proofs.AlongLaws.{row-below, along-none, along-group, along-most}
 use Rattle.walks.proofs.turns_in_groups.Statement.{statement}
