@@ -3,7 +3,7 @@
 // mark before it where it has one.
 // Every function equals a definition of specs/ or of the scheme's Tokens and Totals at the standard primitives. Nothing is assumed.
 ghost use mathlib.Core.Path.{_≡_};
-ghost use mathlib.Core.List.{List, [], _∷_};
+ghost use mathlib.Core.List.{[], _∷_};
 ghost use Prim.Native.Nat.{_+_, _*_, _^_, _≤_, _<_};
 ghost use lib.ListN.{length, take};
 ghost use Rattle.octets.specs.Octets.{xors, part};

@@ -2,7 +2,7 @@
 --   firsts-added     what is handed over of them, as the scheme lists it: the live blocks of a buffer that is lent as far as they go
 --   turns-added      the turns of their walks back, from the row behind the n others on
 --   done-added       what they make of a digest, with the turns and hashes that it takes
-use Prim.Native.Nat.{ℕ, zero, suc, _+_, _*_, _-_, _%_, _≤_, _<_}
+use Prim.Native.Nat.{ℕ, zero, suc, _+_, _*_, _-_, _%_, _≤_}
 use native.Mathlib.Omega.{arith}
 use native.Mathlib.Nat.{zero-add, suc-mul}
 use mathlib.Core.Path.{_≡_, refl, sym, ap, ap₂, _∙_}

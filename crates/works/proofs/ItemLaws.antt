@@ -1,5 +1,5 @@
 -- The digest, the hashes and the turns after one more block change. Assumes nothing.
---   row-wraps, row-steps, number-next   the row behind a row, and the block behind an added one
+--   row-behind, number-next             the row behind a row, and the block behind an added one
 --   row-below, seated                   where a walk begins and ends
 --   walks-from, walked                  the turns of several
 --   walked-none, turns-few              the turns of none, and what those of several are at most
@@ -10,7 +10,7 @@
 --   one-item, all-items                 a change that comes alone; several
 use Prim.Native.Nat.{ℕ, zero, suc, _+_, _*_, _-_, _%_, _≤_, _<_}
 use native.Mathlib.Omega.{arith}
-use native.Mathlib.Nat.{zero-mul, mod-lt, mod-self, mod-eq-of-lt, mod-add-mod}
+use native.Mathlib.Nat.{zero-mul, mod-lt, mod-add-mod}
 use native.Mathlib.Numerals.{add-one}
 use mathlib.Core.Path.{_≡_, refl, sym, ap, ap₂, subst, _∙_}
 use mathlib.Core.List.{List, [], _∷_, _++_}
@@ -38,20 +38,13 @@ use Rattle.items.proofs.ListLaws.{items-same}
 use Rattle.works.specs.Runs.{firsts, Hashed, Rows, Placed}
 
 -- rows one behind the other
-module _ (d at : ℕ) where
-  behind : (m r : ℕ) → 1 ≤ m → at ≡ rowOf d m - 1 → r ≡ (at + 1) % d → r ≡ rowOf d (m + 1) - 1
-  unfolding rowOf
-  behind m r l e q =
-      let a : at ≡ (m - 1) % d = omega arith in
-      let z : m - 1 + 1 ≡ m + 1 - 1 = omega arith in
-      let n : r ≡ (m + 1 - 1) % d = q ∙ ap (λ (x : ℕ). (x + 1) % d) a ∙ mod-add-mod (m - 1) d 1 ∙ ap (λ (x : ℕ). x % d) z in
-      omega arith
-
-  pub row-wraps : at + 1 ≡ d → (m : ℕ) → 1 ≤ m → at ≡ rowOf d m - 1 → 0 ≡ rowOf d (m + 1) - 1
-  row-wraps w m l e = behind m 0 l e (sym (ap (λ (x : ℕ). x % d) w ∙ mod-self d))
-
-  pub row-steps : at + 1 < d → (m : ℕ) → 1 ≤ m → at ≡ rowOf d m - 1 → at + 1 ≡ rowOf d (m + 1) - 1
-  row-steps w m l e = behind m (at + 1) l e (sym (mod-eq-of-lt w))
+pub row-behind : (d m at r : ℕ) → 1 ≤ m → at ≡ rowOf d m - 1 → r ≡ (at + 1) % d → r ≡ rowOf d (m + 1) - 1
+unfolding rowOf
+row-behind d m at r l e q =
+    let a : at ≡ (m - 1) % d = omega arith in
+    let z : m - 1 + 1 ≡ m + 1 - 1 = omega arith in
+    let n : r ≡ (m + 1 - 1) % d = q ∙ ap (λ (x : ℕ). (x + 1) % d) a ∙ mod-add-mod (m - 1) d 1 ∙ ap (λ (x : ℕ). x % d) z in
+    omega arith
 
 pub number-next : (w : Work) (new : List ℕ) (e : ℕ) → w .listed ≡ false → (numberAt w new e ≡ w .first + e) × (numberAt w new (e + 1) ≡ numberAt w new e + 1)
 unfolding numberAt

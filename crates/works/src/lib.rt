@@ -2,8 +2,8 @@
 // hashes of the old and the new content; and how many turns and hashes that takes. Every function equals a definition of specs/ or of the scheme's
 // Tokens and Totals at the standard primitives. Nothing is assumed.
 // A block change that comes alone is a walk and the lent running hash, and needs no room. Several are walked back side by side over one table of the
-// round function, where that takes fewer blocks of ChaCha20, and what is drawn is hashed as sums takes it. Where such a table stands and no fewer blocks
-// are added than a token has positions, the blocks drawn are found by walks forward from the positions, as set-up finds them, and the walks back are
+// round function, where that takes fewer blocks of ChaCha20, and what is drawn is hashed as sums takes it. Where such a table stands and
+// very many blocks are added, those drawn are found by walks forward from the positions, as set-up finds them, and the walks back are
 // counted alone. The turns of the walks back are told, and the hashes of contents; neither what fills the table nor the walks forward.
 ghost use mathlib.Core.Path.{_≡_};
 ghost use mathlib.Core.List.{List};
@@ -23,17 +23,6 @@ ghost use Rattle.works.specs.Runs.{firsts, Rows, Hashed, Room, Made, Pla
 
 mod loads;
 
-// The row behind row `at`, both from 0: behind the last comes the first.
-fn next_row(rows: u64, at: u64) -> u64
-    requires { ⌜ (at < rows) × (rows ≤ 1048576) ⌝ }
-    ensures { λ r. ⌜ ((m : ℕ) → 1 ≤ m → at ≡ T.rowOf rows m - 1 → r ≡ T.rowOf rows (m + 1) - 1) × (r < rows) ⌝ }
-{
-    if at + 1 == rows {
-        return 0;
-    }
-    at + 1
-}
-
 // Writes the rows, from 0, of n added blocks, from change `from` on: one behind the other.
 fn lay_added(work: items::Work, new: &[u8], from: u64, n: usize, starts: &mut [u64])
     requires { ⌜ Several work (now new) × (work .listed ≡ false) × (from + n ≤ work .count) × (1 ≤ n) × (n ≤ length (now starts)) ⌝ }
@@ -45,7 +34,7 @@ fn lay_added(work: items::Work, new: &[u8], from: u64, n: usize, starts: &mut [u
     let mut e: usize = 0;
     while e < n {
         starts[e] = at;
-        at = next_row(work.rows, at);
+        at = walks::next_row(work.rows, at);
         e += 1;
     }
 }

@@ -9,7 +9,8 @@ ghost use Rattle.tokens.specs.Keyed.{tokenKey, Done};
 ghost use Rattle.items.specs.Items.{Several};
 ghost use Rattle.works.specs.Runs.{firsts};
 
-// Whether this way takes less than block by block: a table of so many entries stands, and no fewer blocks are added than a token has positions.
+// Whether this way takes less than block by block: a table of so many entries stands, and there are eight blocks for each position. A walk forward waits for
+// each of its turns, and what some eight to twelve walks back gain by being counted alone makes up for one.
 pub fn dense(work: items::Work, entries: usize) -> bool
     ensures { λ r. ⌜ (r ≡ true → work .listed ≡ false) ⌝ }
 {
@@ -19,7 +20,7 @@ pub fn dense(work: items::Work, entries: usize) -> bool
     if entries == 0 {
         return false;
     }
-    work.positions <= work.count
+    work.positions <= work.count / 8
 }
 
 // The digest x after blocks are added, all of them live, under the draw key k, and the work that it took. The table is empty, or has all values of the
