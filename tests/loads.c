@@ -65,8 +65,7 @@ static void growing_loads(void)
     group_end();
 }
 
-/* Loads of some hundreds of blocks, below, at and above the sizes from which on a table of the round function pays, d / 2^h blocks, and a load
- * goes through the positions, r blocks. */
+/* Loads of some hundreds of blocks, below, at and above the size from which on a table of the round function pays, d / 2^h blocks. */
 static void hundreds(uint64_t B, uint64_t d, uint64_t r)
 {
     static const uint64_t sizes[] = {39, 40, 41, 63, 64, 65, 195, 196, 197, 255, 256, 257, 511, 512, 513, 600, 1201};
@@ -88,6 +87,34 @@ static void large_loads(void)
     hundreds(92, 4096, 64);
     hundreds(1, 100000, LEGBARO_MOST_POSITIONS);
     hundreds(LEGBARO_MOST_BLOCK_BYTES, 700, 100);
+    group_end();
+}
+
+/* Loads below, at and above eight blocks for each position, from where on a load goes through the positions, and with their last walks alone, two,
+ * three and four at once, within a group of 1,024 and behind it. */
+static void through_positions(uint64_t B, uint64_t d, uint64_t r)
+{
+    const uint64_t sizes[] = {8 * r - 1, 8 * r, 8 * r + 1, 8 * r + 2, 8 * r + 3, 1023, 1024, 1025, 1026, 1027, 2049};
+    struct file file = file_set_up(any_version(), B, d, r, 2, 1 + chance_below(d));
+    for (size_t i = 0; i < COUNT(sizes); i = tried_behind(i, 4))
+        file_load(&file, sizes[i]);
+    audit(&file);
+    file_expect_book(&file);
+    file_end(&file);
+}
+
+static void loads_through_positions(void)
+{
+    group_begin("loads of eight blocks and more for each position");
+    through_positions(64, 1, 1);
+    through_positions(1, 2, 2);
+    through_positions(29, 5, 3);
+    through_positions(27, 17, 17);
+    through_positions(148, 64, 40);
+    through_positions(92, 1000, 60);
+    through_positions(28, 4096, 64);
+    through_positions(83, 5000, 64);
+    through_positions(LEGBARO_MOST_BLOCK_BYTES, 1100, 7);
     group_end();
 }
 
@@ -193,6 +220,7 @@ void test_loads(void)
     planned_rows();
     growing_loads();
     large_loads();
+    loads_through_positions();
     loads_of_one();
     loads_and_appends();
     load_lengths();

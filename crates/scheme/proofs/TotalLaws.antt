@@ -62,29 +62,26 @@ below : (a b x y : ℕ) → a ≤ x → b ≤ y → a * b ≤ x * y
 below a b x y h l = mul-le-mul h l
 
 module _ (P : Primitives) where
-  module _ (k : List ℕ) (d r : ℕ) (pos : 1 ≤ d) (most : d ≤ 1048576) (fits : r ≤ d) (few : r ≤ 512) where
-    pub digest-turns-most : digestTurns P k d r ≤ 512 * 1048576
+  module _ (k : List ℕ) (d r : ℕ) (pos : 1 ≤ d) (most : d ≤ 1048576) (fits : r ≤ d) where
+    pub digest-turns-most : digestTurns P k d r ≤ r * 1048576
     unfolding digestTurns
-    digest-turns-most =
-        let s = sum-most (λ j. P .permTurns k d (j - 1)) r 1 1048576 (λ j u v. P .perm-most k d (j - 1) most (omega arith)) in
-        omega (arith, below r 1048576 512 1048576 few (omega arith))
+    digest-turns-most = sum-most (λ j. P .permTurns k d (j - 1)) r 1 1048576 (λ j u v. P .perm-most k d (j - 1) most (omega arith))
 
-    pub digest-hashes-most : (n : ℕ) → n ≤ 16777216 → digestHashes P k d r n ≤ 512 * 16777217
+    pub digest-hashes-most : (n : ℕ) → n ≤ 16777216 → digestHashes P k d r n ≤ r * 16777217
     unfolding digestHashes
     digest-hashes-most n h =
-        let s = sum-most (λ j. columnsOf d n (drawnRow P k d j)) r 1 16777217 (λ j u v. omega (arith, columns-most d n (drawnRow P k d j) pos)) in
-        omega (arith, below r 16777217 512 16777217 few (omega arith))
+        sum-most (λ j. columnsOf d n (drawnRow P k d j)) r 1 16777217 (λ j u v. omega (arith, columns-most d n (drawnRow P k d j) pos))
 
   -- t tokens, from token i on, each under its draw key
   module _ (key : ℕ → List ℕ) (d r t i : ℕ) (pos : 1 ≤ d) (most : d ≤ 1048576) (fits : r ≤ d) (few : r ≤ 512) (some : t ≤ 65536) where
     pub digests-turns-most : sumFrom t i (λ j. digestTurns P (key j) d r) < 18446744073709551616
     digests-turns-most =
-        let s = sum-most (λ j. digestTurns P (key j) d r) t i 536870912 (λ j u v. digest-turns-most (key j) d r pos most fits few) in
+        let s = sum-most (λ j. digestTurns P (key j) d r) t i 536870912 (λ j u v. omega (arith, digest-turns-most (key j) d r pos most fits)) in
         omega (arith, below t 536870912 65536 536870912 some (omega arith))
 
     pub digests-hashes-most : (n : ℕ) → n ≤ 16777216 → sumFrom t i (λ j. digestHashes P (key j) d r n) < 18446744073709551616
     digests-hashes-most n h =
-        let s = sum-most (λ j. digestHashes P (key j) d r n) t i 8589935104 (λ j u v. digest-hashes-most (key j) d r pos most fits few n h) in
+        let s = sum-most (λ j. digestHashes P (key j) d r n) t i 8589935104 (λ j u v. omega (arith, digest-hashes-most (key j) d r pos most fits n h)) in
         omega (arith, below t 8589935104 65536 8589935104 some (omega arith))
 
   module _ (master id : List ℕ) (d r t : ℕ) (pos : 1 ≤ d) (most : d ≤ 1048576) (fits : r ≤ d) (few : r ≤ 512) (some : t ≤ 65536) where

@@ -63,9 +63,10 @@ module _ (P : Primitives) where
       let checks = proveChecks P message blocks marks table reply totals in
       let l = message-limits m (held checks [] (plain-codes checks refl) ok .0 .1 .1 .0) in
       let shape = l .0 in
-      let turns = digest-turns-most P (m .k) (m .d) (m .r) (shape .d1) (shape .dmost) (shape .rd) (shape .rmost) in
-      let hashes = digest-hashes-most P (m .k) (m .d) (m .r) (shape .d1) (shape .dmost) (shape .rd) (shape .rmost) (m .n) (l .4) in
-      rw ok (counted (digestTurns P (m .k) (m .d) (m .r)) (digestHashes P (m .k) (m .d) (m .r) (m .n)) (omega arith) (omega arith))
+      let turns = digest-turns-most P (m .k) (m .d) (m .r) (shape .d1) (shape .dmost) (shape .rd) in
+      let hashes = digest-hashes-most P (m .k) (m .d) (m .r) (shape .d1) (shape .dmost) (shape .rd) (m .n) (l .4) in
+      rw ok
+      (counted (digestTurns P (m .k) (m .d) (m .r)) (digestHashes P (m .k) (m .d) (m .r) (m .n)) (omega (arith, shape .rmost)) (omega (arith, shape .rmost)))
 
 -- how many blocks a change has
 added-many : (m : ℕ) (xs : List (List ℕ)) → length (addedFrom m xs) ≡ length xs

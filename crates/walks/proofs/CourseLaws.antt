@@ -1,5 +1,6 @@
 -- Walks on their way. Assumes nothing.
 --   width, wide, turn-below     the half width; numbers below d, and where a turn leads, are numbers of two halves
+--   ahead-is, ahead-home        the turns taken and those ahead are the definition's; none is ahead of a walk that has come home
 --   course-none                 no walk yet
 --   course-first, course-next   one walk more, after its first turn; one more turn of a walk
 --   course-end                  where no walk goes on, all have come home, and the turns are theirs
@@ -14,7 +15,6 @@ use native.Mathlib.Numerals.{add-one}
 use borrow.Author.Tests.{leb-true, leb-false, lt-leb}
 use lib.Dec.{leb}
 use lib.ListN.{length, getD, set}
-use lib.Seq.{getD-set-same, getD-set-other}
 use Rattle.permutation.specs.Rounds.{half, unrounds}
 use Rattle.permutation.specs.Walk.{turns}
 use Rattle.permutation.specs.Permutation.{roundFunction, eightUndone, backward, backwardTurns}
@@ -23,7 +23,7 @@ use Rattle.permutation.proofs.WidthLaws.{half-wide, half-le, whole-le}
 use Rattle.permutation.proofs.PermutationLaws.{redone, unrounds-at, backward-most}
 use Rattle.walks.specs.Each.{sumBelow, Below, Midway, Backed, turnsOf, ahead, aheadOf, Course, going}
 use Rattle.walks.proofs.EachLaws.{set-more, set-kept}
-use Rattle.walks.proofs.SumLaws.{sum-same, sum-most, sum-set}
+use Rattle.walks.proofs.SumLaws.{sum-most, sum-more, sum-set}
 use Rattle.walks.proofs.PlaceLaws.{going-none}
 
 pub width : (d h : ℕ) → h ≡ half d → d ≤ 1048576 → h ≤ 10
@@ -32,8 +32,7 @@ width d h e l = omega (arith, half-le d l)
 pub wide : (d h x : ℕ) → h ≡ half d → x < d → x < 4 ^ h
 wide d h x e l = subst (λ (k : ℕ). x < 4 ^ k) (sym e) (omega (arith, half-wide d))
 
--- the turns taken and those ahead are the definition's
-ahead-is : (key : List ℕ) (d x v : ℕ) → x < d → (m : Midway key d x v) → m .turns + ahead key d v ≡ backwardTurns key d x
+pub ahead-is : (key : List ℕ) (d x v : ℕ) → x < d → (m : Midway key d x v) → m .turns + ahead key d v ≡ backwardTurns key d x
 unfolding ahead backwardTurns
 ahead-is key d x v l m = go (leb d v) refl
   where
@@ -57,19 +56,15 @@ turns-most key d n xs m b =
     (λ i l. omega (arith, backward-most key d (getD xs i 0) (b i l), whole-le (half d) (half-le d m), b i l))
 
 ahead-more : (key : List ℕ) (d i v : ℕ) (vs : List ℕ) → i < length vs → aheadOf key d (i + 1) (set vs i v) ≡ aheadOf key d i vs + ahead key d v
-unfolding aheadOf sumBelow
-ahead-more key d i v vs w =
-    let same : sumBelow i (λ j. ahead key d (getD (set vs i v) j 0)) ≡ sumBelow i (λ j. ahead key d (getD vs j 0))
-    = sum-same (λ j. ahead key d (getD (set vs i v) j 0)) (λ j. ahead key d (getD vs j 0)) i (λ j l. ap (ahead key d) (getD-set-other vs i j v 0 (λ q. omega arith))) in
-    let here : ahead key d (getD (set vs i v) i 0) ≡ ahead key d v = ap (ahead key d) (getD-set-same vs i v 0 w) in
-    ap (λ (m : ℕ). sumBelow m (λ j. ahead key d (getD (set vs i v) j 0))) (add-one i) ∙ omega arith
+unfolding aheadOf
+ahead-more key d i v vs w = sum-more (ahead key d) vs i v w
 
 ahead-set : (key : List ℕ) (d n i v : ℕ) (vs : List ℕ) → i < n → i < length vs
     → aheadOf key d n (set vs i v) + ahead key d (getD vs i 0) ≡ aheadOf key d n vs + ahead key d v
 unfolding aheadOf
 ahead-set key d n i v vs b w = sum-set (ahead key d) vs i v n b w
 
-ahead-home : (key : List ℕ) (d v : ℕ) → v < d → ahead key d v ≡ 0
+pub ahead-home : (key : List ℕ) (d v : ℕ) → v < d → ahead key d v ≡ 0
 unfolding ahead
 ahead-home key d v l = ap (λ (b : Bool). cond b (turns (eightUndone key d) d (4 ^ half d - d) v) 0) (lt-leb d v l)
 

@@ -1,9 +1,11 @@
 -- Sums by place. Assumes nothing.
---   sum-same, sum-most      equal terms; terms that are at most b
---   sum-set                 terms of a list's elements, one of which is set
+--   sum-same, sum-most                equal terms; terms that are at most b
+--   sum-split                         the first m terms and the n behind them
+--   sum-before, sum-more, sum-set     terms of a list's elements, where one is set: behind them, as the last, and among them
 use Prim.Native.Nat.{ℕ, zero, suc, _+_, _*_, _≤_, _<_}
 use native.Mathlib.Omega.{arith}
 use native.Mathlib.Nat.{eq-or-lt-of-le, suc-mul}
+use native.Mathlib.Numerals.{add-one}
 use mathlib.Core.Path.{_≡_, refl, sym, ap, ap₂, _∙_}
 use mathlib.Core.Logic.{_⊎_, inl, inr}
 use mathlib.Core.List.{List}
@@ -21,6 +23,22 @@ unfolding sumBelow
 sum-most f b zero h = omega arith
 sum-most f b (suc n) h =
     omega (arith, suc-mul n b, sum-most f b n (λ i l. h i (omega arith)), h n (omega arith))
+
+pub sum-split : (f : ℕ → ℕ) (m n : ℕ) → sumBelow (m + n) f ≡ sumBelow m f + sumBelow n (λ i. f (m + i))
+unfolding sumBelow
+sum-split f m zero = let z : m + 0 ≡ m = omega arith in rw z (omega arith)
+sum-split f m (suc n) = let z : m + suc n ≡ suc (m + n) = omega arith in rw z (omega (arith, sum-split f m n))
+
+pub sum-before : (f : ℕ → ℕ) (l : List ℕ) (i v : ℕ) → sumBelow i (λ j. f (getD (set l i v) j 0)) ≡ sumBelow i (λ j. f (getD l j 0))
+sum-before f l i v =
+    sum-same (λ j. f (getD (set l i v) j 0)) (λ j. f (getD l j 0)) i (λ j b. ap f (getD-set-other l i j v 0 (λ q. omega arith)))
+
+pub sum-more : (f : ℕ → ℕ) (l : List ℕ) (i v : ℕ) → i < length l
+    → sumBelow (i + 1) (λ j. f (getD (set l i v) j 0)) ≡ sumBelow i (λ j. f (getD l j 0)) + f v
+unfolding sumBelow
+sum-more f l i v w =
+    ap (λ (m : ℕ). sumBelow m (λ j. f (getD (set l i v) j 0))) (add-one i)
+    ∙ ap₂ _+_ (sum-before f l i v) (ap f (getD-set-same l i v 0 w))
 
 pub sum-set : (f : ℕ → ℕ) (l : List ℕ) (i v n : ℕ) → i < n → i < length l
     → sumBelow n (λ j. f (getD (set l i v) j 0)) + f (getD l i 0) ≡ sumBelow n (λ j. f (getD l j 0)) + f v

@@ -1,6 +1,7 @@
 -- The digest, the hashes and the turns after one more block change. Assumes nothing.
---   row-wraps, row-steps, number-next   the row behind a row, and the block behind an added one
---   row-below, seated, walked           where a walk begins and ends, and the turns of several
+--   row-behind, number-next             the row behind a row, and the block behind an added one
+--   row-below, seated                   where a walk begins and ends
+--   walks-from, walked                  the turns of several
 --   walked-none, turns-few              the turns of none, and what those of several are at most
 --   hashed-none, hashed-at              no change yet; the same changes
 --   hashed-drawn                        one more, where the token draws its row
@@ -9,7 +10,7 @@
 --   one-item, all-items                 a change that comes alone; several
 use Prim.Native.Nat.{ℕ, zero, suc, _+_, _*_, _-_, _%_, _≤_, _<_}
 use native.Mathlib.Omega.{arith}
-use native.Mathlib.Nat.{zero-mul, mod-lt, mod-self, mod-eq-of-lt, mod-add-mod}
+use native.Mathlib.Nat.{zero-mul, mod-lt, mod-add-mod}
 use native.Mathlib.Numerals.{add-one}
 use mathlib.Core.Path.{_≡_, refl, sym, ap, ap₂, subst, _∙_}
 use mathlib.Core.List.{List, [], _∷_, _++_}
@@ -37,20 +38,13 @@ use Rattle.items.proofs.ListLaws.{items-same}
 use Rattle.works.specs.Runs.{firsts, Hashed, Rows, Placed}
 
 -- rows one behind the other
-module _ (d at : ℕ) where
-  behind : (m r : ℕ) → 1 ≤ m → at ≡ rowOf d m - 1 → r ≡ (at + 1) % d → r ≡ rowOf d (m + 1) - 1
-  unfolding rowOf
-  behind m r l e q =
-      let a : at ≡ (m - 1) % d = omega arith in
-      let z : m - 1 + 1 ≡ m + 1 - 1 = omega arith in
-      let n : r ≡ (m + 1 - 1) % d = q ∙ ap (λ (x : ℕ). (x + 1) % d) a ∙ mod-add-mod (m - 1) d 1 ∙ ap (λ (x : ℕ). x % d) z in
-      omega arith
-
-  pub row-wraps : at + 1 ≡ d → (m : ℕ) → 1 ≤ m → at ≡ rowOf d m - 1 → 0 ≡ rowOf d (m + 1) - 1
-  row-wraps w m l e = behind m 0 l e (sym (ap (λ (x : ℕ). x % d) w ∙ mod-self d))
-
-  pub row-steps : at + 1 < d → (m : ℕ) → 1 ≤ m → at ≡ rowOf d m - 1 → at + 1 ≡ rowOf d (m + 1) - 1
-  row-steps w m l e = behind m (at + 1) l e (sym (mod-eq-of-lt w))
+pub row-behind : (d m at r : ℕ) → 1 ≤ m → at ≡ rowOf d m - 1 → r ≡ (at + 1) % d → r ≡ rowOf d (m + 1) - 1
+unfolding rowOf
+row-behind d m at r l e q =
+    let a : at ≡ (m - 1) % d = omega arith in
+    let z : m - 1 + 1 ≡ m + 1 - 1 = omega arith in
+    let n : r ≡ (m + 1 - 1) % d = q ∙ ap (λ (x : ℕ). (x + 1) % d) a ∙ mod-add-mod (m - 1) d 1 ∙ ap (λ (x : ℕ). x % d) z in
+    omega arith
 
 pub number-next : (w : Work) (new : List ℕ) (e : ℕ) → w .listed ≡ false → (numberAt w new e ≡ w .first + e) × (numberAt w new (e + 1) ≡ numberAt w new e + 1)
 unfolding numberAt
@@ -80,19 +74,25 @@ module _ (w : Work) (new : List ℕ) where
   unfolding firsts itemsBelow workTurns
   walked-none k d = refl
 
-  -- the turns of n walks from the rows of changes
-  pub walked : (k words : List ℕ) (from n : ℕ) (starts : List ℕ) → words ≡ keyWords k → Rows w new from n starts
-      → workTurns standard k (w .rows) (firsts w new (from + n)) ≡ workTurns standard k (w .rows) (firsts w new from) + turnsOf words (w .rows) n starts
-  unfolding turnsOf sumBelow
-  walked k words from zero starts ew rows = let z : from + 0 ≡ from = omega arith in rw z (omega arith)
-  walked k words from (suc n) starts ew rows =
+  -- the turns of n walks from the rows of changes, which are those of `start`
+  pub walks-from : (k words : List ℕ) (from n : ℕ) (start : ℕ → ℕ) → words ≡ keyWords k
+      → ((e : ℕ) → e < n → start e ≡ rowOf (w .rows) (numberAt w new (from + e)) - 1)
+      → workTurns standard k (w .rows) (firsts w new (from + n)) ≡ workTurns standard k (w .rows) (firsts w new from) + sumBelow n (λ e. backwardTurns words (w .rows) (start e))
+  unfolding sumBelow
+  walks-from k words from zero start ew rows = let z : from + 0 ≡ from = omega arith in rw z (omega arith)
+  walks-from k words from (suc n) start ew rows =
       let z : from + suc n ≡ from + n + 1 = omega arith in
-      let last : backwardTurns (keyWords k) (w .rows) (rowOf (w .rows) (numberAt w new (from + n)) - 1) ≡ backwardTurns words (w .rows) (getD starts n 0)
+      let last : backwardTurns (keyWords k) (w .rows) (rowOf (w .rows) (numberAt w new (from + n)) - 1) ≡ backwardTurns words (w .rows) (start n)
       = ap₂ (λ (u : List ℕ) (s : ℕ). backwardTurns u (w .rows) s) (sym ew) (sym (rows n (omega arith))) in
       ap (λ (m : ℕ). workTurns standard k (w .rows) (firsts w new m)) z
       ∙ ap (workTurns standard k (w .rows)) (firsts-more (from + n))
       ∙ work-turns-more standard k (w .rows) (firsts w new (from + n)) (numberAt w new (from + n), severalAt w new (from + n))
-      ∙ omega (arith, last, walked k words from n starts ew (λ e h. rows e (omega arith)))
+      ∙ omega (arith, last, walks-from k words from n start ew (λ e h. rows e (omega arith)))
+
+  pub walked : (k words : List ℕ) (from n : ℕ) (starts : List ℕ) → words ≡ keyWords k → Rows w new from n starts
+      → workTurns standard k (w .rows) (firsts w new (from + n)) ≡ workTurns standard k (w .rows) (firsts w new from) + turnsOf words (w .rows) n starts
+  unfolding turnsOf
+  walked k words from n starts = walks-from k words from n (λ e. getD starts e 0)
 
   module _ (k c : List ℕ) where
     pub hashed-none : (x : List ℕ) → Hashed k c w new 0 x x 0

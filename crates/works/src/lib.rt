@@ -2,8 +2,9 @@
 // hashes of the old and the new content; and how many turns and hashes that takes. Every function equals a definition of specs/ or of the scheme's
 // Tokens and Totals at the standard primitives. Nothing is assumed.
 // A block change that comes alone is a walk and the lent running hash, and needs no room. Several are walked back side by side over one table of the
-// round function, where that takes fewer blocks of ChaCha20, and what is drawn is hashed as sums takes it. The turns of the walks are counted, and the
-// hashes of contents; what fills the table is neither.
+// round function, where that takes fewer blocks of ChaCha20, and what is drawn is hashed as sums takes it. Where such a table stands and
+// very many blocks are added, those drawn are found by walks forward from the positions, as set-up finds them, and the walks back are
+// counted alone. The turns of the walks back are told, and the hashes of contents; neither what fills the table nor the walks forward.
 ghost use mathlib.Core.Path.{_≡_};
 ghost use mathlib.Core.List.{List};
 ghost use mathlib.Core.Bool.{true, false};
@@ -20,16 +21,7 @@ ghost use Rattle.sums.specs.Waiting.{held, Sound};
 ghost use Rattle.items.specs.Items.{numberAt, itemsOf, alone, Lent, Several, Fits};
 ghost use Rattle.works.specs.Runs.{firsts, Rows, Hashed, Room, Made, Placed};
 
-// The row behind row `at`, both from 0: behind the last comes the first.
-fn next_row(rows: u64, at: u64) -> u64
-    requires { ⌜ (at < rows) × (rows ≤ 1048576) ⌝ }
-    ensures { λ r. ⌜ ((m : ℕ) → 1 ≤ m → at ≡ T.rowOf rows m - 1 → r ≡ T.rowOf rows (m + 1) - 1) × (r < rows) ⌝ }
-{
-    if at + 1 == rows {
-        return 0;
-    }
-    at + 1
-}
+mod loads;
 
 // Writes the rows, from 0, of n added blocks, from change `from` on: one behind the other.
 fn lay_added(work: items::Work, new: &[u8], from: u64, n: usize, starts: &mut [u64])
@@ -42,7 +34,7 @@ fn lay_added(work: items::Work, new: &[u8], from: u64, n: usize, starts: &mut [u
     let mut e: usize = 0;
     while e < n {
         starts[e] = at;
-        at = next_row(work.rows, at);
+        at = walks::next_row(work.rows, at);
         e += 1;
     }
 }
@@ -273,7 +265,45 @@ fn several_in(
     }
 }
 
-// A token's digest x after several block changes, and the work that it took. Its key k is made once, and c where it draws a block.
+// The digest x after several block changes, block by block, under the words of the draw key, and the work that it took. The hash key is made where a block
+// is drawn.
+fn by_blocks(
+    words: [u32; 8],
+    table: &[u16],
+    z: hmac::Key,
+    i: counts::Token,
+    work: items::Work,
+    new: &[u8],
+    x: [u8; 32],
+    starts: &mut [u64],
+    ends: &mut [u64],
+    p: &mut [u8],
+) -> counts::Worked
+    requires { ⌜ Several work (now new) × Tabled words (half (work .rows)) (now table) × (length (now starts) ≡ 256) × (length (now ends) ≡ 256) × (length (now p) ≡ 3072) ⌝ }
+    ensures { λ r. ⌜ ((k : List ℕ) → words ≡ keyWords k → Done k (tokenKey z (i .0)) (work .rows) (work .positions) (firsts work (now (new .entry)) (work .count)) x r) ⌝ }
+{
+    let h = items::head_bytes(work.version);
+    let padding = sha256::pad(h as u64 + work.size);
+    let bytes = padding.bytes;
+    let len = padding.len;
+    let f = sums::form_of(h, work.size as usize, len);
+    several_in(
+        words,
+        table,
+        z,
+        i,
+        work,
+        f,
+        new,
+        &bytes[..len],
+        x,
+        starts,
+        ends,
+        p,
+    )
+}
+
+// A token's digest x after several block changes, and the work that it took. Its key k is made once.
 fn several(
     w: hmac::Key,
     z: hmac::Key,
@@ -292,20 +322,16 @@ fn several(
     let k = tokens::token_key(w, i);
     let words = chacha20::key_words(&k);
     let entries = permutation::tabulated(words, work.rows, work.count, walks);
-    let h = items::head_bytes(work.version);
-    let padding = sha256::pad(h as u64 + work.size);
-    let bytes = padding.bytes;
-    let len = padding.len;
-    let f = sums::form_of(h, work.size as usize, len);
-    several_in(
+    if loads::dense(work, entries) {
+        return loads::by_positions(k, &walks[..entries], z, i, work, new, x, p);
+    }
+    by_blocks(
         words,
         &walks[..entries],
         z,
         i,
         work,
-        f,
         new,
-        &bytes[..len],
         x,
         starts,
         ends,

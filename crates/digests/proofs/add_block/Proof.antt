@@ -86,7 +86,7 @@ returns c =
     let s = indexed .before .before .before .before .before in
     let a = s .args in (
       added .add .ensures .0,
-      hashed-at (a .c) (headed .head-of .result) (a .blocks .now) (a .marks .now) _ _ (a .b) (a .row .0) (a .j .0) (a .column) (indexed .index-of .result)
+      hashed-at (a .c) (headed .head-of .result) (a .blocks .now) (a .marks .now) _ _ (a .b) (a .before) (a .row .0) (a .j .0) (a .column) (indexed .index-of .result)
           (placed .place-of .result) (marked .mark-of .result) (measured .head-length .result) (key-long indexed)
           (indexed .index-of .ensures)
           (placed .place-of .ensures .0)

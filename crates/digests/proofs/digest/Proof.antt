@@ -1,22 +1,18 @@
--- The padding is lent as far as it goes; the table is empty or has all values of the round function.
+-- With no blocks before, what is made of nothing is the digest, by worked-all, and its hashes are the digest's, by hashes-all. The table is empty or has all
+-- values of the round function.
 use borrow.Author.Needs.{needs}
 use native.Mathlib.Omega.{arith}
-use mathlib.Core.Path.{_≡_, sym, ap, subst, _∙_}
-use Prim.Native.Nat.{ℕ, _+_}
-use lib.ListN.{length, take}
+use mathlib.Core.Path.{sym, ap, _∙_}
 use lib.Seq.{length-take-le}
-use Rattle.sha256.specs.Sha256.{padding}
 use Rattle.permutation.specs.Rounds.{half}
-use Rattle.sums.specs.Waiting.{Cut}
+use Rattle.scheme.specs.Totals.{digestHashes}
+use Rattle.scheme.proofs.NewerLaws.{worked-all, hashes-all}
+use Rattle.standard.specs.Standard.{standard}
+use Rattle.digests.specs.Layout.{contents}
+use Rattle.digests.proofs.ContentLaws.{contents-long}
 use Rattle.digests.proofs.TurnLaws.{tabled-under}
 use Rattle.digests.proofs.digest.Statement.{statement}
 use Rattle.digests.proofs.digest.Tie as tie
-
-bytes-long : (c : tie.After-pad) → length (c .pad .result .bytes) ≡ 72
-bytes-long c = search needs
-
-pad-long : (c : tie.After-pad) → length (take (c .pad .result .len) (c .pad .result .bytes)) ≡ c .pad .result .len
-pad-long c = length-take-le (c .pad .result .len) (c .pad .result .bytes) (omega (arith, c .pad .ensures .0, bytes-long c))
 
 slice-aggregate-key-words : tie.Need-slice-aggregate-key-words
 slice-aggregate-key-words c = search needs
@@ -30,58 +26,45 @@ slice-aggregate-tabulated c = search needs
 tabulated-requires : tie.Need-tabulated-requires
 tabulated-requires c κs = search needs
 
-head-length-requires : tie.Need-head-length-requires
-head-length-requires c κs = search needs
-
-add-pad : tie.Need-add-pad
-add-pad c = search needs
-
-pad-requires : tie.Need-pad-requires
-pad-requires c κs = search needs
-
-form-of-requires : tie.Need-form-of-requires
-form-of-requires c κs =
-    let padded = c .before in
-    let measured = padded .before .before in
-    let lies = measured .before .before .before .before .before .before .before .before .pre .0 in
-    (omega (arith, measured .head-length .ensures, lies .lone), lies .small, sym (pad-long padded) ∙ ap length (padded .pad .ensures .1))
-
 array-share-prefix-table : tie.Need-array-share-prefix-table
 array-share-prefix-table c = search needs
 
-slice-aggregate-digest-in : tie.Need-slice-aggregate-digest-in
-slice-aggregate-digest-in c =
-    let t = c .before .before .before .before .before .before .before .tabulated .ensures in
+slice-aggregate-grown : tie.Need-slice-aggregate-grown
+slice-aggregate-grown c =
+    let t = c .before .before .tabulated .ensures in
     sym (length-take-le _ _ (omega (arith, t .0, t .1)))
 
-array-share-prefix-bytes : tie.Need-array-share-prefix-bytes
-array-share-prefix-bytes c =
-    let n = bytes-long (c .before .before .before) in
-    omega arith
+slice-aggregate-grown-2 : tie.Need-slice-aggregate-grown-2
+slice-aggregate-grown-2 c = search needs
 
-slice-aggregate-digest-in-2 : tie.Need-slice-aggregate-digest-in-2
-slice-aggregate-digest-in-2 c = sym (pad-long (c .before .before .before .before))
-
-digest-in-requires : tie.Need-digest-in-requires
-digest-in-requires c κs =
-    let formed = c .before .before in
-    let padded = formed .before .before in
-    let measured = padded .before .before in
-    let tabled = measured .before .before in
+grown-requires : tie.Need-grown-requires
+grown-requires c κs =
+    let tabled = c .before .before .before in
     let keyed = tabled .before .before in
-    let s = keyed .before .before .before .before in
-    let a = s .args in
-    let l = measured .head-length .ensures in (
+    let s = keyed .before .before .before .before in (
       s .pre .0,
+      omega (arith, s .pre .0 .few),
       s .pre .1,
-      s .pre .2,
-      tabled-under _ _ (half (a .b .rows)) _ (keyed .key-words .ensures) (tabled .tabulated .ensures .2),
-      subst (λ (h : ℕ). Cut (formed .form-of .result) h (a .b .size)) l (formed .form-of .ensures),
-      padded .pad .ensures .1 ∙ ap (λ (h : ℕ). padding (h + a .b .size)) l,
+      tabled-under _ _ (half (s .args .b .rows)) _ (keyed .key-words .ensures) (tabled .tabulated .ensures .2),
+      search needs,
     )
 
 returns : tie.Need-returns
-returns c = search needs
+returns c =
+    let s = c .before .before .before .before .before .before .before .before .before .before .before in
+    let a = s .args in
+    let b = a .b in
+    let lies = s .pre .0 in
+    let news = contents b (a .blocks .now) (a .marks .now) in
+    let grown = c .before .grown .ensures in (
+      grown .0 ∙ worked-all standard (a .t1) (a .c) (b .rows) (a .positions) (lies .rowed) (lies .few-rows) (s .pre .1) news,
+      (
+        grown .1 .0,
+        grown .1 .1
+            ∙ hashes-all standard (a .t1) (b .rows) (a .positions) (lies .rowed) (lies .few-rows) (s .pre .1) news
+            ∙ ap (digestHashes standard (a .t1) (b .rows) (a .positions)) (contents-long b (a .blocks .now) (a .marks .now)),
+      ),
+    )
 
 pub digest-spec : {M : Type 1} → statement M
 digest-spec =
@@ -91,13 +74,8 @@ digest-spec =
     key-words-requires
     slice-aggregate-tabulated
     tabulated-requires
-    head-length-requires
-    add-pad
-    pad-requires
-    form-of-requires
     array-share-prefix-table
-    slice-aggregate-digest-in
-    array-share-prefix-bytes
-    slice-aggregate-digest-in-2
-    digest-in-requires
+    slice-aggregate-grown
+    slice-aggregate-grown-2
+    grown-requires
     returns)

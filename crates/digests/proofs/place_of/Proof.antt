@@ -1,4 +1,4 @@
--- The block's number, less one.
+-- The block's number, less those of the blocks before.
 use borrow.Author.Needs.{needs}
 use native.Mathlib.Omega.{arith}
 use mathlib.Core.Path.{ap}
@@ -13,12 +13,15 @@ block-in-requires c κs = search needs
 sub-result : tie.Need-sub-result
 sub-result c = search needs
 
+sub-result-2 : tie.Need-sub-result-2
+sub-result-2 c = search needs
+
 returns : tie.Need-returns
 unfolding place
 returns c =
     let found = c .before in
     let s = found .before in
-    (ap (λ (k : ℕ). k - 1) (found .block-in .ensures .0), omega (arith, found .block-in .ensures .1, s .pre .0, s .pre .1))
+    (ap (λ (k : ℕ). k - s .args .before - 1) (found .block-in .ensures .0), omega (arith, found .block-in .ensures .1, s .pre .0, s .pre .1))
 
 pub place-of-spec : {M : Type 1} → statement M
-place-of-spec = tie.close (tie.spec block-in-requires sub-result returns)
+place-of-spec = tie.close (tie.spec block-in-requires sub-result sub-result-2 returns)

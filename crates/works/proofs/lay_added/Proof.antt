@@ -8,7 +8,7 @@ use Rattle.scheme.specs.Tokens.{rowOf}
 use Rattle.walks.proofs.EachLaws.{set-more}
 use Rattle.items.specs.Items.{numberAt}
 use Rattle.works.specs.Runs.{Rows}
-use Rattle.works.proofs.ItemLaws.{number-next}
+use Rattle.works.proofs.ItemLaws.{row-behind, row-below, number-next}
 use Rattle.works.proofs.lay_added.Statement.{statement}
 use Rattle.works.proofs.lay_added.Tie as tie
 
@@ -55,7 +55,7 @@ slice-write-starts c =
     omega (arith, c .before .loop .inv .1, c .loop-test .taken, s .pre .4)
 
 next-row-requires : tie.Need-next-row-requires Inv-loop μ-loop
-next-row-requires c κs = (c .before .loop .inv .2, c .before .before .before .before .before .before .before .pre .0 .few-rows)
+next-row-requires c κs = (c .before .before .before .before .before .before .before .pre .0 .few-rows, c .before .loop .inv .2)
 
 add-e : tie.Need-add-e Inv-loop μ-loop
 add-e c =
@@ -73,11 +73,12 @@ loop-again c =
     let more = c .before .loop-test .taken in
     let next = number-next (a .work) (a .new .now) (a .from + l .e) (s .pre .1) in
     let up : a .from + l .e + 1 ≡ a .from + (l .e + 1) = omega arith in
-    let some : 1 ≤ numberAt (a .work) (a .new .now) (a .from + l .e) = omega (arith, next .0, s .pre .0 .added (s .pre .1) .from-one) in (
+    let some : 1 ≤ numberAt (a .work) (a .new .now) (a .from + l .e) = omega (arith, next .0, s .pre .0 .added (s .pre .1) .from-one) in
+    let behind = row-behind (a .work .rows) (numberAt (a .work) (a .new .now) (a .from + l .e)) (l .at) _ some (l .inv .3) (c .next-row .ensures) in (
       omega (arith, more),
       length-set (l .starts) (l .e) _ ∙ l .inv .1,
-      c .next-row .ensures .1,
-      c .next-row .ensures .0 _ some (l .inv .3) ∙ ap (λ (m : ℕ). rowOf (a .work .rows) m - 1) (sym (next .1) ∙ ap (numberAt (a .work) (a .new .now)) up),
+      row-below (a .work .rows) (numberAt (a .work) (a .new .now) (a .from + l .e) + 1) _ (s .pre .0 .rowed) behind,
+      behind ∙ ap (λ (m : ℕ). rowOf (a .work .rows) m - 1) (sym (next .1) ∙ ap (numberAt (a .work) (a .new .now)) up),
       set-more (λ j v. v ≡ rowOf (a .work .rows) (numberAt (a .work) (a .new .now) (a .from + j)) - 1) (l .starts) (l .e) _
           (omega (arith, l .inv .1, more, s .pre .4)) (l .inv .3) (l .inv .4),
     )

@@ -1,23 +1,17 @@
--- The table that stands is empty or whole, the words are those of the draw key, and the padding, of what is hashed in the version, is lent as far as it
--- goes.
+-- The table that stands is empty or whole, and the words are those of the draw key; either way all changes are done.
 use borrow.Author.Needs.{needs}
 use native.Mathlib.Omega.{arith}
-use Prim.Native.Nat.{ℕ, _+_}
-use mathlib.Core.Path.{_≡_, sym, ap, subst, _∙_}
-use lib.ListN.{length, take}
+use Prim.Native.Nat.{ℕ}
+use mathlib.Core.Path.{sym, ap, subst, _∙_}
+use mathlib.Core.List.{List}
 use lib.Seq.{length-take-le}
-use Rattle.sha256.specs.Sha256.{padding}
 use Rattle.chacha20.specs.ChaCha20.{keyWords}
-use Rattle.tokens.specs.Keyed.{tokenKey}
-use Rattle.sums.specs.Waiting.{Cut}
+use Rattle.permutation.specs.Rounds.{half}
+use Rattle.tokens.specs.Keyed.{tokenKey, Done}
+use Rattle.digests.proofs.TurnLaws.{tabled-under}
+use Rattle.works.specs.Runs.{firsts}
 use Rattle.works.proofs.several.Statement.{statement}
 use Rattle.works.proofs.several.Tie as tie
-
-bytes-long : (c : tie.After-pad) → length (c .pad .result .bytes) ≡ 72
-bytes-long c = search needs
-
-pad-long : (c : tie.After-pad) → length (take (c .pad .result .len) (c .pad .result .bytes)) ≡ c .pad .result .len
-pad-long c = length-take-le (c .pad .result .len) (c .pad .result .bytes) (omega (arith, c .pad .ensures .0, bytes-long c))
 
 token-key-requires : tie.Need-token-key-requires
 token-key-requires c κs = search needs
@@ -29,64 +23,29 @@ key-words-requires : tie.Need-key-words-requires
 key-words-requires c κs = search needs
 
 tabulated-requires : tie.Need-tabulated-requires
-tabulated-requires c κs =
-    let s = c .before .before .before .before .before .before .before .before .before in
-    (s .pre .0 .rowed, s .pre .0 .few-rows, s .pre .1 .walks-long)
+tabulated-requires c κs = search needs
 
-head-bytes-requires : tie.Need-head-bytes-requires
-head-bytes-requires c κs = search needs
+dense-requires : tie.Need-dense-requires
+dense-requires c κs = search needs
 
-add-pad : tie.Need-add-pad
-add-pad c =
-    let s = c .before .before .before .before .before .before .before .before .before .before .before .before .before .before in
-    omega (arith, c .before .head-bytes .ensures .1, s .pre .0 .small)
+slice-reshare-prefix-by-positions : tie.Need-slice-reshare-prefix-by-positions
+slice-reshare-prefix-by-positions c = search needs
 
-pad-requires : tie.Need-pad-requires
-pad-requires c κs =
-    let s = c .before .before .before .before .before .before .before .before .before .before .before .before .before .before in
-    omega (arith, c .before .head-bytes .ensures .1, s .pre .0 .small)
-
-form-of-requires : tie.Need-form-of-requires
-form-of-requires c κs =
-    let padded = c .before in
-    let measured = padded .before .before in
-    let s = measured .before .before .before .before .before .before .before .before .before .before .before .before .before in
-    (omega (arith, measured .head-bytes .ensures .1), s .pre .0 .small, sym (pad-long padded) ∙ ap length (padded .pad .ensures .1))
-
-slice-reshare-prefix-several-in : tie.Need-slice-reshare-prefix-several-in
-slice-reshare-prefix-several-in c = search needs
-
-slice-aggregate-several-in : tie.Need-slice-aggregate-several-in
-slice-aggregate-several-in c =
-    let t = c .before .before .before .before .before .before .before .before .tabulated .ensures in
+slice-aggregate-by-positions : tie.Need-slice-aggregate-by-positions
+slice-aggregate-by-positions c =
+    let t = c .before .before .before .before .before .tabulated .ensures in
     sym (length-take-le _ _ (omega (arith, t .0, t .1)))
 
-array-share-prefix-bytes : tie.Need-array-share-prefix-bytes
-array-share-prefix-bytes c =
-    let padded = c .before .before .before in
-    omega (arith, padded .pad .ensures .0, bytes-long padded)
-
-slice-aggregate-several-in-2 : tie.Need-slice-aggregate-several-in-2
-slice-aggregate-several-in-2 c = sym (pad-long (c .before .before .before .before))
-
-several-in-requires : tie.Need-several-in-requires
-several-in-requires c κs =
-    let formed = c .before .before .before .before .before in
-    let padded = formed .before .before in
-    let measured = padded .before .before in
-    let tabled = measured .before .before .before in
-    let s = tabled .before .before .before .before .before .before .before .before .before .before in
-    let h = measured .head-bytes .ensures .0 in
-    let B = s .args .work .size in (
+by-positions-requires : tie.Need-by-positions-requires
+by-positions-requires c κs =
+    let chosen = c .before .before in
+    let tabled = c .before .before .before .before .before .before in
+    let worded = tabled .before .before in
+    let s = worded .before .before .before .before .before .before .before .before in (
       s .pre .0,
-      tabled .tabulated .ensures .2,
-      record {
-        cut = subst (λ (n : ℕ). Cut (formed .form-of .result) n B) h (formed .form-of .ensures);
-        padded = padded .pad .ensures .1 ∙ ap (λ (n : ℕ). padding (n + B)) h;
-        whole = s .pre .1 .whole;
-      },
-      s .pre .1 .starts-long,
-      s .pre .1 .ends-long,
+      chosen .before .dense .ensures (chosen .if1 .taken),
+      tabled-under _ _ (half (s .args .work .rows)) _ (worded .key-words .ensures) (tabled .tabulated .ensures .2),
+      s .pre .1 .whole,
     )
 
 same-length : tie.Need-same-length
@@ -95,19 +54,44 @@ same-length c = search needs
 same-length-2 : tie.Need-same-length-2
 same-length-2 c = search needs
 
+returns : tie.Need-returns
+returns c =
+    let done = c .before .before in
+    let keyed = c .before .before .before .before .before .before .before .before .before .before .before .before .before in
+    let a = keyed .before .before .before .before .before .before .args in
+    subst (λ (k : List ℕ). Done k (tokenKey (a .z) (a .i .0)) (a .work .rows) (a .work .positions) (firsts (a .work) (a .new .now) (a .work .count)) (a .x) (done .by-positions .result))
+    (keyed .token-key .ensures)
+    (done .by-positions .ensures)
+
+slice-reshare-prefix-by-blocks : tie.Need-slice-reshare-prefix-by-blocks
+slice-reshare-prefix-by-blocks c = search needs
+
+slice-aggregate-by-blocks : tie.Need-slice-aggregate-by-blocks
+slice-aggregate-by-blocks c =
+    let t = c .before .before .before .before .before .tabulated .ensures in
+    sym (length-take-le _ _ (omega (arith, t .0, t .1)))
+
+by-blocks-requires : tie.Need-by-blocks-requires
+by-blocks-requires c κs = search needs
+
 same-length-3 : tie.Need-same-length-3
 same-length-3 c = search needs
 
 same-length-4 : tie.Need-same-length-4
 same-length-4 c = search needs
 
-returns : tie.Need-returns
-returns c =
-    let done = c .before .before .before .before .before .before in
-    let worded = done .before .before .before .before .before .before .before .before .before .before .before .before .before .before .before in
+same-length-5 : tie.Need-same-length-5
+same-length-5 c = search needs
+
+same-length-6 : tie.Need-same-length-6
+same-length-6 c = search needs
+
+returns-2 : tie.Need-returns-2
+returns-2 c =
+    let worded = c .before .before .before .before .before .before .before .before .before .before .before .before .before .before .before .before .before in
     let keyed = worded .before .before in
     let a = keyed .before .before .before .before .before .before .args in
-    done .several-in .ensures (tokenKey (a .w) (a .i .0)) (worded .key-words .ensures ∙ ap keyWords (keyed .token-key .ensures))
+    c .before .before .before .before .before .before .by-blocks .ensures (tokenKey (a .w) (a .i .0)) (worded .key-words .ensures ∙ ap keyWords (keyed .token-key .ensures))
 
 pub several-spec : {M : Type 1} → statement M
 several-spec =
@@ -117,17 +101,18 @@ several-spec =
     slice-aggregate-key-words
     key-words-requires
     tabulated-requires
-    head-bytes-requires
-    add-pad
-    pad-requires
-    form-of-requires
-    slice-reshare-prefix-several-in
-    slice-aggregate-several-in
-    array-share-prefix-bytes
-    slice-aggregate-several-in-2
-    several-in-requires
+    dense-requires
+    slice-reshare-prefix-by-positions
+    slice-aggregate-by-positions
+    by-positions-requires
     same-length
     same-length-2
+    returns
+    slice-reshare-prefix-by-blocks
+    slice-aggregate-by-blocks
+    by-blocks-requires
     same-length-3
     same-length-4
-    returns)
+    same-length-5
+    same-length-6
+    returns-2)
