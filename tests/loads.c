@@ -65,16 +65,22 @@ static void growing_loads(void)
     group_end();
 }
 
-/* Loads of some hundreds of blocks, below, at and above the size from which on a table of the round function pays, d / 2^h blocks. */
-static void hundreds(uint64_t B, uint64_t d, uint64_t r)
+/* A file that grows by loads of these sizes, one after the other, or of some of them, and an audit. */
+static void grown_by(uint64_t B, uint64_t d, uint64_t r, const uint64_t *sizes, size_t count)
 {
-    static const uint64_t sizes[] = {39, 40, 41, 63, 64, 65, 195, 196, 197, 255, 256, 257, 511, 512, 513, 600, 1201};
     struct file file = file_set_up(any_version(), B, d, r, 2, 1 + chance_below(d));
-    for (size_t i = 0; i < COUNT(sizes); i = tried_behind(i, 4))
+    for (size_t i = 0; i < count; i = tried_behind(i, 4))
         file_load(&file, sizes[i]);
     audit(&file);
     file_expect_book(&file);
     file_end(&file);
+}
+
+/* Loads of some hundreds of blocks, below, at and above the size from which on a table of the round function pays, d / 2^h blocks. */
+static void hundreds(uint64_t B, uint64_t d, uint64_t r)
+{
+    static const uint64_t sizes[] = {39, 40, 41, 63, 64, 65, 195, 196, 197, 255, 256, 257, 511, 512, 513, 600, 1201};
+    grown_by(B, d, r, sizes, COUNT(sizes));
 }
 
 static void large_loads(void)
@@ -95,12 +101,7 @@ static void large_loads(void)
 static void through_positions(uint64_t B, uint64_t d, uint64_t r)
 {
     const uint64_t sizes[] = {8 * r - 1, 8 * r, 8 * r + 1, 8 * r + 2, 8 * r + 3, 1023, 1024, 1025, 1026, 1027, 2049};
-    struct file file = file_set_up(any_version(), B, d, r, 2, 1 + chance_below(d));
-    for (size_t i = 0; i < COUNT(sizes); i = tried_behind(i, 4))
-        file_load(&file, sizes[i]);
-    audit(&file);
-    file_expect_book(&file);
-    file_end(&file);
+    grown_by(B, d, r, sizes, COUNT(sizes));
 }
 
 static void loads_through_positions(void)
