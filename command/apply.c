@@ -47,7 +47,11 @@ static int go_on(const struct options *o)
     struct host host = open_host(o->folder, 0);
     if (host.begun)
         tell_stands(&host.stands);
-    say("nothing is half in place");
+    if (host.went_on)
+        say("what was half in place is in place now: file %s has %" PRIu64 " blocks at counter %" PRIu64, id_words(host.stands.id),
+            host.stands.blocks_after, host.stands.counter);
+    else
+        say("nothing is half in place");
     return ended(DONE);
 }
 

@@ -114,6 +114,7 @@ struct host open_host(const char *path, int make)
         decided("A change is half in place, and kept as 'applying'. Mend what is wrong, and run the command again: it goes on from there.");
         put_applying(&host);
         decided(NULL);
+        host.went_on = 1;
     }
     return host;
 }

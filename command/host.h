@@ -10,7 +10,8 @@
 
 struct host {
     struct folder folder;
-    int begun; /* whether there is a file: the change that stands is known then */
+    int begun;   /* whether there is a file: the change that stands is known then */
+    int went_on; /* whether a change that was half in place was put there when the folder was opened */
     struct change stands;
 };
 
