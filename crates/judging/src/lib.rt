@@ -127,7 +127,7 @@ fn sealed_cause(key: [u8; 32], counter: u64, token: u64, reply: &[u8]) -> Reason
     Reason::Sound
 }
 
-// Why a reply is rejected on a card, under the master. The keys of the file are reckoned only where the clear bytes fit.
+// Why a reply is rejected on a card, under the master. The key of the file is reckoned only where the clear bytes fit.
 fn reply_cause(master: &[u8], c: cards::Card, reply: &[u8]) -> Reason
     requires { ⌜ length (now master) ≡ 32 ⌝ }
     ensures { λ r. ⌜ causeOf r ≡ J.cause standard (now (master .entry)) (cardOf c) (now (reply .entry)) ⌝ }
@@ -149,8 +149,7 @@ fn reply_cause(master: &[u8], c: cards::Card, reply: &[u8]) -> Reason
     if counter != c.counter {
         return Reason::OtherCounter;
     }
-    let keys = tokens::file_keys(master, id);
-    let k = keys.k;
+    let k = tokens::sealing_key(master, id);
     sealed_cause(k, c.counter, c.open_token, reply)
 }
 

@@ -186,8 +186,8 @@ fn pool_fault(master: &[u8], cards: &[u8]) -> u64
     drawn_fault(cards)
 }
 
-// What a card's 75 bytes of a pooled reply open to, id, i and record: whether they pass as for single judging, and the token where they do. The keys of
-// the file are reckoned only where the clear bytes fit.
+// What a card's 75 bytes of a pooled reply open to, id, i and record: whether they pass as for single judging, and the token where they do. The key of
+// the file is reckoned only where the clear bytes fit.
 fn passes(master: &[u8], c: cards::Card, entry: &[u8]) -> judging::Body
     requires { ⌜ (length (now master) ≡ 32) × (length (now entry) ≡ 75) ⌝ }
     ensures { λ r. ⌜ r .holds ≡ S.passes standard (now (master .entry)) (cardOf c) (now (entry .entry)) ⌝ }
@@ -205,8 +205,7 @@ fn passes(master: &[u8], c: cards::Card, entry: &[u8]) -> judging::Body
             token: [0u8; 32],
         };
     }
-    let keys = tokens::file_keys(master, id);
-    let k = keys.k;
+    let k = tokens::sealing_key(master, id);
     judging::opened(k, c.counter, c.open_token, &entry[12..75])
 }
 

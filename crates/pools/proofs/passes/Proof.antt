@@ -51,8 +51,8 @@ returns c =
     let fits = clear-is (a .master .now) (a .c) (a .entry .now) (c .before .before .before .before .before .before .before .head-fits .result) (c .before .before .before .names-fit .result) (c .before .before .before .before .before .before .be4 .result) (c .before .before .be8 .result) (c .before .before .before .before .before .before .before .head-fits .ensures) (c .before .before .before .before .before .before .be4 .ensures) (c .before .before .before .names-fit .ensures) (c .before .before .be8 .ensures) in
     (part-failed (a .master .now) (a .c) (a .entry .now) _ fits (not-true _ (c .if1 .taken)), λ h. absurd (false≢true h))
 
-file-keys-requires : tie.Need-file-keys-requires
-file-keys-requires c κs = search needs
+sealing-key-requires : tie.Need-sealing-key-requires
+sealing-key-requires c κs = search needs
 
 sub-opened : tie.Need-sub-opened
 sub-opened c = search needs
@@ -68,11 +68,11 @@ opened-requires c κs = search needs
 
 returns-2 : tie.Need-returns-2
 returns-2 c =
-    let a = c .before .before .before .before .before .before .before .before .before .before .before .before .before .before .before .before .args in
-    let fits = clear-is (a .master .now) (a .c) (a .entry .now) (c .before .before .before .before .before .before .before .before .before .before .before .head-fits .result) (c .before .before .before .before .before .before .before .names-fit .result) (c .before .before .before .before .before .before .before .before .before .before .be4 .result) (c .before .before .before .before .before .before .be8 .result) (c .before .before .before .before .before .before .before .before .before .before .before .head-fits .ensures) (c .before .before .before .before .before .before .before .before .before .before .be4 .ensures) (c .before .before .before .before .before .before .before .names-fit .ensures) (c .before .before .before .before .before .before .be8 .ensures) in
-    let k = c .before .before .before .file-keys in (
-      part-opened (a .master .now) (a .c) (a .entry .now) _ fits (not-false _ (c .before .before .before .before .if1 .left)) (k .result .k) (k .ensures .sealing) _ (c .opened .ensures .0),
-      λ h. part-token (a .master .now) (a .c) (a .entry .now) _ fits (not-false _ (c .before .before .before .before .if1 .left)) (k .result .k) (k .ensures .sealing) _ (c .opened .ensures .1 h),
+    let a = c .before .before .before .before .before .before .before .before .before .before .before .before .before .before .before .args in
+    let fits = clear-is (a .master .now) (a .c) (a .entry .now) (c .before .before .before .before .before .before .before .before .before .before .head-fits .result) (c .before .before .before .before .before .before .names-fit .result) (c .before .before .before .before .before .before .before .before .before .be4 .result) (c .before .before .before .before .before .be8 .result) (c .before .before .before .before .before .before .before .before .before .before .head-fits .ensures) (c .before .before .before .before .before .before .before .before .before .be4 .ensures) (c .before .before .before .before .before .before .names-fit .ensures) (c .before .before .before .before .before .be8 .ensures) in
+    let k = c .before .before .sealing-key in (
+      part-opened (a .master .now) (a .c) (a .entry .now) _ fits (not-false _ (c .before .before .before .if1 .left)) (k .result) (k .ensures) _ (c .opened .ensures .0),
+      λ h. part-token (a .master .now) (a .c) (a .entry .now) _ fits (not-false _ (c .before .before .before .if1 .left)) (k .result) (k .ensures) _ (c .opened .ensures .1 h),
     )
 
 pub passes-spec : {M : Type 1} → statement M
@@ -93,7 +93,7 @@ passes-spec =
     names-fit-requires
     be8-requires
     returns
-    file-keys-requires
+    sealing-key-requires
     sub-opened
     part-opened-start
     part-opened-end
