@@ -13,13 +13,6 @@ enum { B = 28, D = 5, T = 4, N = 8 };
 
 static const uint64_t block_bytes[] = {1, 26, 27, 28, 64, 90, 91, 92, LEGBARO_MOST_BLOCK_BYTES};
 
-/* An audit of the file as it is, accepted. */
-static void audit(struct file *file)
-{
-    file_do(file, DRAW);
-    file_do(file, JUDGE);
-}
-
 /* ---- Ask and commit, and the change in one step ---- */
 
 /* A commit or a drop on a card, expected to be accepted. */
@@ -78,7 +71,7 @@ static void with_spent(uint64_t bytes, uint64_t d)
         file_do(&file, (enum kind)(ASK_UPDATE + chance_below(5)));
         file_do(&file, chance_of(2) ? COMMIT : DROP);
         if (spent < T)
-            audit(&file);
+            file_audit(&file);
     }
     file_expect_book(&file);
     file_end(&file);
@@ -134,7 +127,7 @@ static void same_refusals(void)
 {
     group_begin("an ask is turned away as the change in one step is");
     struct file file = file_set_up(LEGBARO_TWO_STEPS, B, D, D, T, N);
-    audit(&file);
+    file_audit(&file);
     for (enum kind kind = UPDATE; kind <= BATCH; kind++)
         with_bad_records(&file, kind);
     with_bad_arguments(&file, UPDATE);
@@ -218,7 +211,7 @@ static void asked_again(void)
     for (uint64_t spent = 0; spent <= T; spent += T) {
         struct file file = file_set_up(LEGBARO_TWO_STEPS, B, D, D, T, N);
         for (uint64_t i = 0; i < spent; i++)
-            audit(&file);
+            file_audit(&file);
         for (uint64_t asks = 1; asks <= 9; asks++) {
             file_do(&file, ASK_BATCH);
             expect(file.book.numbers.pending == asks && file.book.numbers.ctr == 0, "a counter of its own for each ask");
@@ -262,7 +255,7 @@ static void last_ask(uint64_t ctr, enum kind settle)
     file_do(&file, settle);
     for (enum kind kind = UPDATE; kind <= ASK_BATCH; kind++)
         refused(&file, kind, LEGBARO_COUNTER_AT_MOST);
-    audit(&file);
+    file_audit(&file);
     file_expect_book(&file);
     file_end(&file);
 }

@@ -9,18 +9,6 @@
 
 #define COUNT(array) (sizeof(array) / sizeof *(array))
 
-/* Blocks whose hashed bytes, 36 more or with a mark 37, end around a SHA-256 block of 64 or around the last 8 of one; and the least and the
- * most. */
-static const uint64_t block_bytes[] = {1,  18, 19, 20, 26, 27,  28,  29,  82,  83,
-                                       84, 90, 91, 92, 93, 146, 147, 148, 183, LEGBARO_MOST_BLOCK_BYTES};
-
-/* An audit of the file as it is, accepted. */
-static void audit(struct file *file)
-{
-    file_do(file, DRAW);
-    file_do(file, JUDGE);
-}
-
 /* Runs a batch on the file, expected to be accepted. */
 static void run_batch(struct file *file, struct call call)
 {
@@ -49,7 +37,7 @@ static void every_size(uint64_t B, uint64_t d, uint64_t r, enum kinds kinds)
         put_kinds(&file, &batch, kinds);
         run_batch(&file, batch);
     }
-    audit(&file);
+    file_audit(&file);
     file_expect_book(&file);
     file_end(&file);
 }
@@ -58,12 +46,12 @@ static void every_size(uint64_t B, uint64_t d, uint64_t r, enum kinds kinds)
 static void every_size_and_kind(void)
 {
     group_begin("batches of 1 to 64 items: updates, deletions, both");
-    for (size_t b = 0; b < COUNT(block_bytes); b = tried_behind(b, 8))
+    for (size_t b = 0; b < BLOCK_SIZES; b = tried_behind(b, 8))
         for (size_t kinds = 0; kinds < KINDS_OF_BATCH; kinds++)
             if ((b + kinds) % 2)
-                every_size(block_bytes[b], 5, 5, (enum kinds)kinds);
+                every_size(block_sizes[b], 5, 5, (enum kinds)kinds);
             else
-                every_size(block_bytes[b], 61, 1 + chance_below(61), (enum kinds)kinds);
+                every_size(block_sizes[b], 61, 1 + chance_below(61), (enum kinds)kinds);
     group_end();
 }
 
@@ -76,7 +64,7 @@ static void many_rows(void)
         struct file file = file_set_up(any_version(), 64, rows[i][0], rows[i][1], 4, rows[i][0] + chance_below(rows[i][0]));
         for (size_t items = LEGBARO_MOST_ITEMS; items >= LEGBARO_MOST_ITEMS / 2 - 1; items -= 11)
             file_batch(&file, items);
-        audit(&file);
+        file_audit(&file);
         file_expect_book(&file);
         file_end(&file);
     }
@@ -104,7 +92,7 @@ static void which_blocks(uint64_t d, uint64_t n)
     stepped(&file, 1, 1);
     stepped(&file, n, 1);
     stepped(&file, 1, n > 1 ? n - 1 : 1);
-    audit(&file);
+    file_audit(&file);
     file_expect_book(&file);
     file_end(&file);
 }
@@ -133,16 +121,16 @@ static void deleted_again(uint64_t version, uint64_t B)
         run_batch(&file, batch);
         file_expect_book(&file);
     }
-    audit(&file);
+    file_audit(&file);
     file_end(&file);
 }
 
 static void blocks_deleted_again(void)
 {
     group_begin("blocks deleted and updated again by batches");
-    for (size_t b = 0; b < COUNT(block_bytes); b++)
+    for (size_t b = 0; b < BLOCK_SIZES; b++)
         for (uint64_t version = FIRST_VERSION; version <= LAST_VERSION; version++)
-            deleted_again(version, block_bytes[b]);
+            deleted_again(version, block_sizes[b]);
     group_end();
 }
 
@@ -189,8 +177,8 @@ static void batch_and_singles(uint64_t B, uint64_t d, uint64_t spent, size_t ite
     struct call again = file_set_up_call(any_version(), B, d, 1 + chance_below(d), 5, LEGBARO_MOST_ITEMS + chance_below(d));
     struct file together = file_of(&again), singly = file_of(&again);
     for (uint64_t i = 0; i < spent; i++) {
-        audit(&together);
-        audit(&singly);
+        file_audit(&together);
+        file_audit(&singly);
     }
     struct call batch = file_batch_call(&together, items);
     for (size_t e = 0; e < items; e++) {
@@ -212,7 +200,7 @@ static void batches_and_singles(void)
 {
     group_begin("a batch and the same changes made singly leave the same tokens");
     for (size_t items = 1; items <= LEGBARO_MOST_ITEMS; items = tried_behind(items, 6))
-        batch_and_singles(block_bytes[items % COUNT(block_bytes)], 1 + chance_below(90), chance_below(6), items);
+        batch_and_singles(block_sizes[items % BLOCK_SIZES], 1 + chance_below(90), chance_below(6), items);
     group_end();
 }
 
@@ -220,26 +208,13 @@ static void batches_and_singles(void)
 static void one_item(const struct file *file)
 {
     struct call batch = file_batch_call(file, 1), alone = single(file, &batch.lent[ITEMS], 0);
-    call_expect(&batch, LEGBARO_OK, "accepted");
-    call_expect(&alone, LEGBARO_OK, "accepted");
-    expect(buffer_same(&batch.lent[CARD], &alone.lent[CARD]), "the card of the single change");
-    expect(buffer_same(&batch.lent[TABLE], &alone.lent[TABLE]), "the table of the single change");
-    expect(buffer_same(&batch.lent[TOTALS], &alone.lent[TOTALS]), "the totals of the single change");
-    call_free(&batch);
-    call_free(&alone);
+    call_alike(&batch, &alone);
 }
 
 static void batches_of_one(void)
 {
     group_begin("a batch of one item writes what that change writes");
-    for (size_t b = 0; b < COUNT(block_bytes); b++)
-        for (uint64_t n = 1; n <= 12; n = tried_behind(n, 6)) {
-            struct file file = file_set_up(any_version(), block_bytes[b], 5, 1 + chance_below(5), 3, n);
-            one_item(&file);
-            audit(&file);
-            one_item(&file);
-            file_end(&file);
-        }
+    file_each_size(one_item);
     group_end();
 }
 
@@ -249,8 +224,8 @@ static void batches_of_one(void)
 static void new_bytes_of_deletions(void)
 {
     group_begin("a deletion's new bytes are not read");
-    for (size_t b = 0; b < COUNT(block_bytes); b++) {
-        uint64_t B = block_bytes[b];
+    for (size_t b = 0; b < BLOCK_SIZES; b++) {
+        uint64_t B = block_sizes[b];
         struct file file = file_set_up(any_version(), B, 7, 7, 2, 40);
         struct call batch = file_batch_call(&file, 9);
         put_kinds(&file, &batch, DELETIONS);
@@ -362,8 +337,8 @@ static void none_unused(void)
 {
     group_begin("a batch with every token spent");
     struct file file = file_set_up(any_version(), 28, 5, 5, 2, 20);
-    audit(&file);
-    audit(&file);
+    file_audit(&file);
+    file_audit(&file);
     struct buffer table = buffer_copy(&file.table);
     file_batch(&file, 20);
     expect(buffer_same(&file.table, &table), "spent records keep their bytes");

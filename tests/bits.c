@@ -174,8 +174,7 @@ static void version_bits(uint64_t version)
     file_do(&settling, UPDATE);
     if (version == LEGBARO_TWO_STEPS)
         file_do(&settling, ASK_APPEND);
-    file_do(&changing, DRAW);
-    file_do(&changing, JUDGE);
+    file_audit(&changing);
     file_do(&changing, APPEND);
     file_do(&judging, APPEND);
     file_do(&judging, DELETE);

@@ -186,3 +186,15 @@ void call_finish(struct call *call, uint64_t number, const char *what)
     call_expect(call, number, what);
     call_free(call);
 }
+
+void call_alike(struct call *call, struct call *other)
+{
+    static const enum argument written[] = {CARD, TABLE, TOTALS};
+    call_expect(call, LEGBARO_OK, "accepted");
+    call_expect(other, LEGBARO_OK, "accepted");
+    for (size_t i = 0; i < sizeof written / sizeof *written; i++)
+        expect(buffer_same(&call->lent[written[i]], &other->lent[written[i]]), "%s: buffer %d as by %s", call_name(call->kind), (int)written[i],
+               call_name(other->kind));
+    call_free(call);
+    call_free(other);
+}

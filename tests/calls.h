@@ -117,4 +117,7 @@ unsigned long call_count(enum kind kind, uint64_t code);
 void call_expect(struct call *call, uint64_t number, const char *what);
 void call_finish(struct call *call, uint64_t number, const char *what);
 
+/* Expects two changes to be accepted, and to leave equal cards, tables and totals; frees both. */
+void call_alike(struct call *call, struct call *other);
+
 #endif

@@ -44,8 +44,7 @@ static struct file drawn(uint64_t version)
 {
     struct file file = file_set_up(version, B, D, R, T, N);
     file_do(&file, APPEND);
-    file_do(&file, DRAW);
-    file_do(&file, JUDGE);
+    file_audit(&file);
     file_do(&file, DELETE);
     file_do(&file, DRAW);
     return file;

@@ -20,8 +20,7 @@ static struct file prepared(void)
     struct file file = file_set_up(version, B, D, R, T, N);
     file_do(&file, APPEND);
     file_load(&file, 2);
-    file_do(&file, DRAW);
-    file_do(&file, JUDGE);
+    file_audit(&file);
     for (int asks = 0; version == LEGBARO_TWO_STEPS && asks < 2; asks++) {
         file_do(&file, ASK_UPDATE);
         file_do(&file, DROP);

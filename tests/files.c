@@ -179,6 +179,16 @@ struct call file_call(const struct file *file, enum kind kind)
     return call;
 }
 
+struct call file_block_call(const struct file *file, enum kind kind, uint64_t m)
+{
+    struct call call = file_call(file, kind);
+    call.m = m;
+    memcpy(call.lent[OLD].bytes, book_block(&file->book, m), call.lent[OLD].length);
+    if (call.lent[MARKS].length)
+        call.lent[MARKS].bytes[0] = *book_mark(&file->book, m);
+    return call;
+}
+
 struct call file_load_call(const struct file *file, uint64_t blocks)
 {
     struct call call = file_call(file, LOAD);
@@ -260,6 +270,26 @@ void file_batch(struct file *file, size_t items)
 {
     struct call call = file_batch_call(file, items);
     run_accepted(file, &call);
+}
+
+void file_audit(struct file *file)
+{
+    file_do(file, DRAW);
+    file_do(file, JUDGE);
+}
+
+const uint64_t block_sizes[BLOCK_SIZES] = {1, 18, 19, 20, 26, 27, 28, 29, 82, 83, 84, 90, 91, 92, 93, 146, 147, 148, 183, LEGBARO_MOST_BLOCK_BYTES};
+
+void file_each_size(void (*look)(const struct file *file))
+{
+    for (size_t b = 0; b < BLOCK_SIZES; b++)
+        for (uint64_t n = 1; n <= 12; n = tried_behind(n, 6)) {
+            struct file file = file_set_up(any_version(), block_sizes[b], 5, 1 + chance_below(5), 3, n);
+            look(&file);
+            file_audit(&file);
+            look(&file);
+            file_end(&file);
+        }
 }
 
 void file_expect_book(const struct file *file)

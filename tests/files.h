@@ -32,6 +32,9 @@ void file_end(struct file *file);
  * turn it away. */
 struct call file_call(const struct file *file, enum kind kind);
 
+/* An update or a deletion of block m: present bytes and mark, of an update a random new block. */
+struct call file_block_call(const struct file *file, enum kind kind, uint64_t m);
+
 /* A load of so many random blocks. */
 struct call file_load_call(const struct file *file, uint64_t blocks);
 
@@ -49,6 +52,17 @@ uint64_t file_run(struct file *file, struct call *call);
 void file_do(struct file *file, enum kind kind);
 void file_load(struct file *file, uint64_t blocks);
 void file_batch(struct file *file, size_t items);
+
+/* An audit of the file as it is, accepted. */
+void file_audit(struct file *file);
+
+/* Blocks whose hashed bytes, 36 more or with a mark 37, end around a SHA-256 block of 64 or around the last 8 of one; and the least and the
+ * most. */
+enum { BLOCK_SIZES = 20 };
+extern const uint64_t block_sizes[BLOCK_SIZES];
+
+/* Looks at small files with blocks of each of these sizes, before an audit and after it. */
+void file_each_size(void (*look)(const struct file *file));
 
 /* Expects card and table to be the book's, byte for byte, and so the asked table where something is pending. */
 void file_expect_book(const struct file *file);

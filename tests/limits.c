@@ -28,8 +28,7 @@ static void round_of_calls(struct file *file)
     file_do(file, UPDATE);
     file_do(file, DELETE);
     file_do(file, BATCH);
-    file_do(file, DRAW);
-    file_do(file, JUDGE);
+    file_audit(file);
     file_expect_book(file);
 }
 
@@ -113,8 +112,7 @@ static void full(struct file *file)
     file_do(file, UPDATE);
     file_do(file, DELETE);
     last_block_in_batch(file);
-    file_do(file, DRAW);
-    file_do(file, JUDGE);
+    file_audit(file);
     file_expect_book(file);
 }
 
@@ -153,8 +151,7 @@ static void most_rows_loaded(uint64_t version)
     struct file file = file_set_up(version, 1, LEGBARO_MOST_ROWS, LEGBARO_MOST_POSITIONS, 2, 1);
     round_of_calls(&file);
     file_load(&file, LEGBARO_MOST_ROWS - file.book.numbers.n);
-    file_do(&file, DRAW);
-    file_do(&file, JUDGE);
+    file_audit(&file);
     file_expect_book(&file);
     file_end(&file);
     group_end();
@@ -171,8 +168,7 @@ static void most_counter(uint64_t version)
         refused(&file, (enum kind)kind, LEGBARO_COUNTER_AT_MOST);
         refused(&file, asked((enum kind)kind), version == LEGBARO_TWO_STEPS ? LEGBARO_COUNTER_AT_MOST : LEGBARO_WRONG_HEADER);
     }
-    file_do(&file, DRAW);
-    file_do(&file, JUDGE);
+    file_audit(&file);
     file_expect_book(&file);
     file_end(&file);
     group_end();

@@ -9,26 +9,14 @@
 
 #define COUNT(array) (sizeof(array) / sizeof *(array))
 
-/* Blocks whose hashed bytes, 36 more or with a mark 37, end around a SHA-256 block of 64 or around the last 8 of one; and the least and the
- * most. */
-static const uint64_t block_bytes[] = {1,  18, 19, 20, 26, 27,  28,  29,  82,  83,
-                                       84, 90, 91, 92, 93, 146, 147, 148, 183, LEGBARO_MOST_BLOCK_BYTES};
-
-/* An audit of the file as it is, accepted. */
-static void audit(struct file *file)
-{
-    file_do(file, DRAW);
-    file_do(file, JUDGE);
-}
-
 /* Set-ups of d planned rows with every number of blocks up to a column more than twice d. */
 static void planned(uint64_t B, uint64_t d)
 {
     for (uint64_t n = 1; n <= 2 * d + 1; n++) {
         struct file file = file_set_up(any_version(), B, d, 1 + chance_below(d), 2, n);
-        audit(&file);
+        file_audit(&file);
         file_do(&file, LOAD);
-        audit(&file);
+        file_audit(&file);
         file_expect_book(&file);
         file_end(&file);
     }
@@ -38,9 +26,9 @@ static void planned_rows(void)
 {
     static const uint64_t rows[] = {1, 5, 17};
     group_begin("set-ups with fewer, as many and more blocks than rows");
-    for (size_t b = 0; b < COUNT(block_bytes); b = tried_behind(b, 5))
+    for (size_t b = 0; b < BLOCK_SIZES; b = tried_behind(b, 5))
         for (size_t i = 0; i < COUNT(rows); i++)
-            planned(block_bytes[b], rows[i]);
+            planned(block_sizes[b], rows[i]);
     group_end();
 }
 
@@ -50,7 +38,7 @@ static void growing(uint64_t B, uint64_t d)
     struct file file = file_set_up(any_version(), B, d, d, 2, 1 + chance_below(2 * d));
     for (uint64_t blocks = 1; blocks <= 40; blocks++)
         file_load(&file, blocks);
-    audit(&file);
+    file_audit(&file);
     file_expect_book(&file);
     file_end(&file);
 }
@@ -59,9 +47,9 @@ static void growing_loads(void)
 {
     static const uint64_t rows[] = {5, 61};
     group_begin("loads of 1 to 40 blocks");
-    for (size_t b = 0; b < COUNT(block_bytes); b = tried_behind(b, 6))
+    for (size_t b = 0; b < BLOCK_SIZES; b = tried_behind(b, 6))
         for (size_t i = 0; i < COUNT(rows); i++)
-            growing(block_bytes[b], rows[i]);
+            growing(block_sizes[b], rows[i]);
     group_end();
 }
 
@@ -71,7 +59,7 @@ static void grown_by(uint64_t B, uint64_t d, uint64_t r, const uint64_t *sizes, 
     struct file file = file_set_up(any_version(), B, d, r, 2, 1 + chance_below(d));
     for (size_t i = 0; i < count; i = tried_behind(i, 4))
         file_load(&file, sizes[i]);
-    audit(&file);
+    file_audit(&file);
     file_expect_book(&file);
     file_end(&file);
 }
@@ -124,26 +112,13 @@ static void one_block(const struct file *file)
 {
     struct call append = file_call(file, APPEND), load = file_load_call(file, 1);
     memcpy(load.lent[BLOCKS].bytes, append.lent[NEW].bytes, append.lent[NEW].length);
-    call_expect(&append, LEGBARO_OK, "accepted");
-    call_expect(&load, LEGBARO_OK, "accepted");
-    expect(buffer_same(&load.lent[CARD], &append.lent[CARD]), "the card of an append");
-    expect(buffer_same(&load.lent[TABLE], &append.lent[TABLE]), "the table of an append");
-    expect(buffer_same(&load.lent[TOTALS], &append.lent[TOTALS]), "the totals of an append");
-    call_free(&append);
-    call_free(&load);
+    call_alike(&load, &append);
 }
 
 static void loads_of_one(void)
 {
     group_begin("a load of one block writes what an append writes");
-    for (size_t b = 0; b < COUNT(block_bytes); b++)
-        for (uint64_t n = 1; n <= 12; n = tried_behind(n, 6)) {
-            struct file file = file_set_up(any_version(), block_bytes[b], 5, 1 + chance_below(5), 3, n);
-            one_block(&file);
-            audit(&file);
-            one_block(&file);
-            file_end(&file);
-        }
+    file_each_size(one_block);
     group_end();
 }
 
@@ -195,9 +170,9 @@ static void load_and_appends(uint64_t B, uint64_t d, uint64_t r, uint64_t n, uin
 static void loads_and_appends(void)
 {
     group_begin("a load and the same blocks appended one by one are audited alike");
-    for (size_t b = 0; b < COUNT(block_bytes); b = tried_behind(b, 5))
+    for (size_t b = 0; b < BLOCK_SIZES; b = tried_behind(b, 5))
         for (uint64_t blocks = 1; blocks <= 33; blocks += 4)
-            load_and_appends(block_bytes[b], 7, 1 + chance_below(7), 1 + chance_below(10), blocks);
+            load_and_appends(block_sizes[b], 7, 1 + chance_below(7), 1 + chance_below(10), blocks);
     group_end();
 }
 

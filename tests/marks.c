@@ -76,11 +76,7 @@ enum { CLOSED_DAY = 4, DELETED_BLOCK = 9 };
 /* Updates a block to zero bytes, or deletes it. */
 static void make_zeros(struct file *file, enum kind kind, uint64_t m)
 {
-    struct call call = file_call(file, kind);
-    call.m = m;
-    memcpy(call.lent[OLD].bytes, book_block(&file->book, m), B);
-    if (call.lent[MARKS].length)
-        call.lent[MARKS].bytes[0] = *book_mark(&file->book, m);
+    struct call call = file_block_call(file, kind, m);
     if (kind == UPDATE)
         memset(call.lent[NEW].bytes, 0, B);
     expect(file_run(file, &call) == LEGBARO_OK, "accepted");
@@ -136,9 +132,7 @@ static void closed_days(void)
 static void wrong_old_mark(uint64_t version, enum kind kind, uint64_t m)
 {
     struct file file = with_closed_day(version);
-    struct call call = file_call(&file, kind);
-    call.m = m;
-    memcpy(call.lent[OLD].bytes, book_block(&file.book, m), B);
+    struct call call = file_block_call(&file, kind, m);
     call.lent[MARKS].bytes[0] = (uint8_t)(LEGBARO_LIVE + LEGBARO_DELETED - *book_mark(&file.book, m));
     expect(file_run(&file, &call) == LEGBARO_OK, "accepted");
     file_do(&file, DRAW);

@@ -145,8 +145,7 @@ static void limits(void)
     static const enum kind kinds[] = {COMMIT, DROP, DRAW, JUDGE, UPDATE, ASK_UPDATE};
     group_begin("last counter issued, pending counter and pending blocks at, below and above their ends");
     struct file file = file_set_up(LEGBARO_TWO_STEPS, B, D, R, T, N);
-    file_do(&file, DRAW);
-    file_do(&file, JUDGE);
+    file_audit(&file);
     for (int changes = 0; changes < CTR; changes++)
         file_do(&file, UPDATE);
     for (uint64_t number = 0; number < CASES; number = tried_behind(number, 7)) {

@@ -16,10 +16,8 @@ struct file pool_file(const struct buffer *master, uint64_t version)
     call_free(&set_up);
     for (uint64_t changes = chance_below(A_FEW); changes; changes--)
         file_do(&file, UPDATE);
-    for (uint64_t spent = chance_below(A_FEW); spent; spent--) {
-        file_do(&file, DRAW);
-        file_do(&file, JUDGE);
-    }
+    for (uint64_t spent = chance_below(A_FEW); spent; spent--)
+        file_audit(&file);
     file_do(&file, DRAW);
     return file;
 }

@@ -32,8 +32,7 @@ static void outside_limits(uint64_t version)
 static void last_token_drawn(uint64_t version)
 {
     struct file file = file_set_up(version, B, D, R, 1, D);
-    file_do(&file, DRAW);
-    file_do(&file, JUDGE);
+    file_audit(&file);
     refused(&file, DRAW, LEGBARO_NO_TOKEN_LEFT, "t 1, one draw judged, draw");
     file_end(&file);
 }
@@ -328,8 +327,7 @@ static void one_block(uint64_t version)
     file_do(&file, UPDATE);
     file_do(&file, DELETE);
     file_do(&file, BATCH);
-    file_do(&file, DRAW);
-    file_do(&file, JUDGE);
+    file_audit(&file);
     file_do(&file, LOAD);
     file_expect_book(&file);
     file_end(&file);

@@ -66,21 +66,10 @@ static void expect_spent(const struct file *file, const struct call *change)
 
 /* ---- Changes of every block ---- */
 
-/* An update or a deletion of block m, present bytes and mark. */
-static struct call of_block(const struct file *file, enum kind kind, uint64_t m)
-{
-    struct call call = file_call(file, kind);
-    call.m = m;
-    memcpy(call.lent[OLD].bytes, book_block(&file->book, m), B);
-    if (call.lent[MARKS].length)
-        call.lent[MARKS].bytes[0] = *book_mark(&file->book, m);
-    return call;
-}
-
 /* An update that puts what is there. */
 static struct call unaltered(const struct file *file, uint64_t m)
 {
-    struct call call = of_block(file, UPDATE, m);
+    struct call call = file_block_call(file, UPDATE, m);
     memcpy(call.lent[NEW].bytes, call.lent[OLD].bytes, B);
     return call;
 }
@@ -129,8 +118,8 @@ static void every_block(const struct file *file)
         call_expect(&nothing_asked, LEGBARO_OK, "asked");
     for (uint64_t m = 1; m <= n; m = tried_behind(m, 5)) {
         both_ways(file, &nothing, &nothing_asked, unaltered(file, m));
-        both_ways(file, &nothing, &nothing_asked, of_block(file, UPDATE, m));
-        both_ways(file, &nothing, &nothing_asked, of_block(file, DELETE, m));
+        both_ways(file, &nothing, &nothing_asked, file_block_call(file, UPDATE, m));
+        both_ways(file, &nothing, &nothing_asked, file_block_call(file, DELETE, m));
         both_ways(file, &nothing, &nothing_asked, file_batch_call(file, 1 + chance_below(most)));
     }
     call_free(&nothing);
@@ -144,10 +133,8 @@ static void with_spent(uint64_t version, uint64_t d, uint64_t r)
     for (uint64_t spent = 0; spent <= T; spent++) {
         every_block(&file);
         file_do(&file, UPDATE);
-        if (spent < T) {
-            file_do(&file, DRAW);
-            file_do(&file, JUDGE);
-        }
+        if (spent < T)
+            file_audit(&file);
     }
     file_end(&file);
 }
@@ -251,7 +238,7 @@ static void expect_unrelated(const struct tally *tally, uint64_t i)
 /* Whether token i covers block m: an update of m that alters the block leaves another record than one that does not. */
 static int covers(const struct file *file, uint64_t m, uint64_t i)
 {
-    struct call same = unaltered(file, m), other = of_block(file, UPDATE, m);
+    struct call same = unaltered(file, m), other = file_block_call(file, UPDATE, m);
     call_expect(&same, LEGBARO_OK, "accepted");
     call_expect(&other, LEGBARO_OK, "accepted");
     int answer = !same_bytes(&same, &other, i, LEGBARO_RECORD_BYTES);
@@ -273,7 +260,7 @@ static void sealed_bytes(uint64_t version)
     expect(0 < covering && covering < TOKENS, "tokens that cover a block and tokens that do not, %u of %d", covering, TOKENS);
     for (unsigned reseal = 0; reseal < RESEALS; reseal++) {
         struct buffer before = buffer_copy(&file.table);
-        struct call update = reseal % 2 ? unaltered(&file, M) : of_block(&file, UPDATE, M);
+        struct call update = reseal % 2 ? unaltered(&file, M) : file_block_call(&file, UPDATE, M);
         expect(file_run(&file, &update) == LEGBARO_OK, "accepted");
         for (uint64_t i = 1; i <= TOKENS; i++)
             count_bits(&tallies[i - 1], &before, &file.table, i);

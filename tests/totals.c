@@ -32,13 +32,6 @@ static void expect_totals(struct totals found, struct totals expected, const cha
            (unsigned long long)expected.hashes, (unsigned long long)found.turns, (unsigned long long)found.hashes);
 }
 
-/* An audit of the file as it is, accepted. */
-static void audit(struct file *file)
-{
-    file_do(file, DRAW);
-    file_do(file, JUDGE);
-}
-
 /* ---- A proof, and all proofs beside set-up ---- */
 
 /* The least and the most of a number that was found. */
@@ -152,11 +145,7 @@ static struct totals with_all_rows(const struct call *set_up)
 /* A single change of block m. */
 static void change_block(struct file *file, enum kind kind, uint64_t m)
 {
-    struct call call = file_call(file, kind);
-    call.m = m;
-    memcpy(call.lent[OLD].bytes, book_block(&file->book, m), B);
-    if (call.lent[MARKS].length)
-        call.lent[MARKS].bytes[0] = *book_mark(&file->book, m);
+    struct call call = file_block_call(file, kind, m);
     expect(file_run(file, &call) == LEGBARO_OK, "accepted");
 }
 
@@ -270,7 +259,7 @@ static void every_change(uint64_t version, uint64_t d, uint64_t r)
         expect_change(&file, file_load_call(&file, LOADED), LOADED, 1);
         expect_change(&file, file_batch_call(&file, ITEMS_HERE), ITEMS_HERE, 2);
         if (spent < T)
-            audit(&file);
+            file_audit(&file);
     }
     file_end(&file);
 }

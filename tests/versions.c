@@ -127,8 +127,7 @@ static void versions_of_a_file(uint64_t version)
 {
     group_begin("other versions than the file's, which is %llu, in all that is read", (unsigned long long)version);
     struct file changing = file_set_up(version, B, D, R, T, N), judging = file_set_up(version, B, D, R, T, N);
-    file_do(&changing, DRAW);
-    file_do(&changing, JUDGE);
+    file_audit(&changing);
     file_do(&judging, DRAW);
     versions_in_changes(&changing);
     versions_in_audits(&changing, &judging);
