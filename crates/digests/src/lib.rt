@@ -17,7 +17,7 @@ ghost use Rattle.standard.specs.Standard.{standard};
 ghost use Rattle.digests.specs.Layout.{Lies, Row, Seat, contents, behind, place, hashAt};
 ghost use Rattle.sums.specs.Waiting.{Cut, Sound, held};
 
-// How blocks lie: `count` blocks of `size` bytes in so many rows. The mark of a block has `mark` bytes, none in version 1 and one in version 2, and lies
+// How blocks lie: `count` blocks of `size` bytes in so many rows. The mark of a block has `mark` bytes, none in version 1 and one in the others, and lies
 // `step` bytes behind that of the block before: none where one mark stands for all blocks.
 pub struct Span {
     pub rows: u64,
