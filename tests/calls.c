@@ -193,8 +193,8 @@ void call_alike(struct call *call, struct call *other)
     call_expect(call, LEGBARO_OK, "accepted");
     call_expect(other, LEGBARO_OK, "accepted");
     for (size_t i = 0; i < sizeof written / sizeof *written; i++)
-        expect(buffer_same(&call->lent[written[i]], &other->lent[written[i]]), "%s: buffer %d as by %s", call_name(call->kind), (int)written[i],
-               call_name(other->kind));
+        expect(buffer_same(&call->lent[written[i]], &other->lent[written[i]]), "%s: buffer %d as by %s", call_name(call->kind),
+               (int)written[i], call_name(other->kind));
     call_free(call);
     call_free(other);
 }

@@ -278,7 +278,8 @@ void file_audit(struct file *file)
     file_do(file, JUDGE);
 }
 
-const uint64_t block_sizes[BLOCK_SIZES] = {1, 18, 19, 20, 26, 27, 28, 29, 82, 83, 84, 90, 91, 92, 93, 146, 147, 148, 183, LEGBARO_MOST_BLOCK_BYTES};
+const uint64_t block_sizes[BLOCK_SIZES] = {1,  18, 19, 20, 26, 27,  28,  29,  82,  83,
+                                           84, 90, 91, 92, 93, 146, 147, 148, 183, LEGBARO_MOST_BLOCK_BYTES};
 
 void file_each_size(void (*look)(const struct file *file))
 {
