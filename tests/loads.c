@@ -64,16 +64,16 @@ static void grown_by(uint64_t B, uint64_t d, uint64_t r, const uint64_t *sizes, 
     file_end(&file);
 }
 
-/* Loads of some hundreds of blocks, below, at and above the size from which on a table of the round function pays, d / 2^h blocks. */
+/* Loads of up to some hundreds of blocks, below, at and above the size from which on a table of the round function pays, half of d / 2^h. */
 static void hundreds(uint64_t B, uint64_t d, uint64_t r)
 {
-    static const uint64_t sizes[] = {39, 40, 41, 63, 64, 65, 195, 196, 197, 255, 256, 257, 511, 512, 513, 600, 1201};
+    static const uint64_t sizes[] = {19, 20, 21, 31, 32, 33, 97, 98, 99, 255, 256, 257, 511, 512, 513, 600, 1201};
     grown_by(B, d, r, sizes, COUNT(sizes));
 }
 
 static void large_loads(void)
 {
-    group_begin("loads of some hundreds of blocks");
+    group_begin("loads of up to some hundreds of blocks");
     hundreds(64, 600, LEGBARO_MOST_POSITIONS);
     hundreds(28, 512, LEGBARO_MOST_POSITIONS);
     hundreds(27, 17, 17);
@@ -84,8 +84,8 @@ static void large_loads(void)
     group_end();
 }
 
-/* Loads below, at and above eight blocks for each position, from where on a load goes through the positions, and with their last walks alone, two,
- * three and four at once, within a group of 1,024 and behind it. */
+/* Loads below, at and above eight blocks for each position, from where on a load goes through the positions, and with their last walks alone,
+ * two, three and four at once, within a group of 1,024 and behind it. */
 static void through_positions(uint64_t B, uint64_t d, uint64_t r)
 {
     const uint64_t sizes[] = {8 * r - 1, 8 * r, 8 * r + 1, 8 * r + 2, 8 * r + 3, 1023, 1024, 1025, 1026, 1027, 2049};

@@ -2,7 +2,7 @@
 // hashes of the old and the new content; and how many turns and hashes that takes. Every function equals a definition of specs/ or of the scheme's
 // Tokens and Totals at the standard primitives. Nothing is assumed.
 // A block change that comes alone is a walk and the lent running hash, and needs no room. Several are walked back side by side over one table of the
-// round function, where that takes fewer blocks of ChaCha20, and what is drawn is hashed as sums takes it. Where such a table stands and
+// round function, where that is quicker by the number of blocks, and what is drawn is hashed as sums takes it. Where such a table stands and
 // very many blocks are added, those drawn are found by walks forward from the positions, as set-up finds them, and the walks back are
 // counted alone. The turns of the walks back are told, and the hashes of contents; neither what fills the table nor the walks forward.
 ghost use mathlib.Core.Path.{_≡_};
