@@ -52,6 +52,7 @@ static const struct measure measures[] = {
     BOTH(NULL, 1, 4096, 4096, 64),
     BOTH(NULL, 1, 4096, 4096, 460),
     BOTH(NULL, 1, 1024, 5000, 460),
+    BOTH(NULL, 1, 64, 262144, 460),
     {"Update", UPDATE, 1, 64, 4096, 64, T_UPDATE, 4096},
     {NULL, UPDATE, 1, 64, 5000, 64, T_UPDATE, 5000},
     {NULL, UPDATE, 1, 1024, 4096, 64, T_UPDATE, 4096},
@@ -136,11 +137,13 @@ struct times {
     double best[WAYS];
 };
 
+/* A call alone tells how many are timed together. What an update takes hangs on how many tokens draw its block, so all ways go through the same
+ * blocks. */
 static struct times measure(int row)
 {
     struct call call = measured_call(&measures[row]);
     struct times t = {{0}};
-    unsigned calls[WAYS];
+    unsigned calls[WAYS] = {0}, most = 0;
     call.m = 1;
     for (int way = 0; way < WAYS; way++) {
         int code = way >= PLAIN && way <= CHOSEN;
@@ -148,13 +151,13 @@ static struct times measure(int row)
             continue;
         if (code)
             compare(runs[way], &call);
-        t.best[way] = timed_by(way, &call, row, 1);
-        calls[way] = calls_for(t.best[way]);
+        calls[way] = calls_for(timed_by(way, &call, row, 1));
+        most = calls[way] > most ? calls[way] : most;
     }
     for (int turn = 0; turn < TURNS; turn++)
         for (int way = 0; way < WAYS; way++)
-            if (t.best[way] > 0)
-                t.best[way] = lesser(t.best[way], timed_by(way, &call, row, calls[way]));
+            if (calls[way])
+                t.best[way] = lesser(t.best[way], timed_by(way, &call, row, measures[row].kind == UPDATE ? most : calls[way]));
     call_free(&call);
     return t;
 }

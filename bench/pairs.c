@@ -31,9 +31,7 @@ static struct both measure(struct pair *pair, uint64_t (*run)(struct call *))
         return best;
     compare(run, &pair->call);
     compare(run, &pair->other);
-    best.one = timed(run, &pair->call, 1, 1);
-    best.others = timed_others(pair, run, 1);
-    unsigned ones = calls_for(best.one), others = others_for(pair, best.others / pair->others);
+    unsigned ones = calls_for(timed(run, &pair->call, 1, 1)), others = others_for(pair, timed(run, &pair->other, pair->n, 1));
     for (int turn = 0; turn < TURNS; turn++) {
         best.one = lesser(best.one, timed(run, &pair->call, 1, ones));
         best.others = lesser(best.others, timed_others(pair, run, others));

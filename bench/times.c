@@ -61,9 +61,9 @@ unsigned calls_for(double time)
     return 1 + (unsigned)(SHORTEST_NS / time);
 }
 
-double lesser(double a, double b)
+double lesser(double best, double time)
 {
-    return a < b ? a : b;
+    return best > 0 && best < time ? best : time;
 }
 
 void compare(uint64_t (*run)(struct call *), const struct call *call)

@@ -19,7 +19,8 @@ double timed(uint64_t (*run)(struct call *), struct call *call, uint64_t n, unsi
 /* How many calls of so many nanoseconds are timed together. */
 unsigned calls_for(double time);
 
-double lesser(double a, double b);
+/* The best time with one more, where 0 stands for none before it. */
+double lesser(double best, double time);
 
 /* Compares what a code writes with what the second implementation writes. */
 void compare(uint64_t (*run)(struct call *), const struct call *call);
