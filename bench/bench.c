@@ -137,8 +137,8 @@ struct times {
     double best[WAYS];
 };
 
-/* A call alone tells how many are timed together. What an update takes hangs on how many tokens draw its block, so all ways go through the same
- * blocks. */
+/* A call alone tells how many are timed together. What an update takes hangs on how many tokens draw its block, so all ways go through blocks of the
+ * same numbers. */
 static struct times measure(int row)
 {
     struct call call = measured_call(&measures[row]);
