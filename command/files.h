@@ -25,9 +25,22 @@ char *text(const char *format, ...);
 uint64_t number_at(const uint8_t *at, unsigned width);
 void put_number(uint8_t *at, unsigned width, uint64_t number);
 
-/* The bytes of a file, mapped, to be read only; those of a file that must have so many, else it is turned away with what to do next. */
+/* The bytes of a regular file, mapped, to be read only. Anything else, a pipe too, is refused at once.
+ * map_whole refuses a file of another length with what to do next. */
 struct bytes map_file(const char *path);
 struct bytes map_whole(const char *path, uint64_t length, const char *what, const char *next);
+
+/* The most bytes of a text that is read whole: a plan, or the list of a batch. */
+enum { MOST_TEXT_BYTES = 1 << 20 };
+
+/* The bytes of something small: of a regular file, of a pipe, or for "-" of standard input, a copy.
+ * What has more than `most` bytes is refused; `what` says what it is to be, as "a plan".
+ * small_whole refuses another length, in the words of map_whole. */
+struct bytes read_small(const char *path, size_t most, const char *what);
+struct bytes small_whole(const char *path, uint64_t length, const char *what, const char *next);
+
+/* A path for words: "-" is standard input. */
+const char *input_words(const char *path);
 
 /* A copy of a mapped file's bytes, to be written, which a child may share. */
 struct bytes copy_of(struct bytes mapped);
