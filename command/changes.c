@@ -182,8 +182,9 @@ static int finish(struct making *m)
         turn_away(result, subject(m, LEGBARO_CODE(result)));
     m->change.counter = last_issued(m->owner.card);
     m->change.blocks = m->blocks;
+    settle(&m->owner);
     prepare(&m->owner.folder, "change", 0600, change_pieces(&m->change), CHANGE_PIECES);
-    store_card(&m->owner.folder, m->owner.card);
+    store_card(&m->owner);
     tell(m);
     return ended(DONE);
 }
@@ -249,7 +250,8 @@ static int end_pending(const struct options *o, uint64_t (*call)(uint64_t, uint8
     uint64_t was = pending(owner.card), result = call(o->role, LENT(owner.card));
     if (result != LEGBARO_OK)
         turn_away(result, path_in(o->folder, "card"));
-    store_card(&owner.folder, owner.card);
+    settle(&owner);
+    store_card(&owner);
     field("counter", in_card(owner.card, LEGBARO_CARD_COUNTER, 8));
     field("blocks", in_card(owner.card, LEGBARO_CARD_BLOCKS, 4));
     say("the change at counter %" PRIu64 " %s: %" PRIu64 " blocks at counter %" PRIu64, was, done,

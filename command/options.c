@@ -41,6 +41,8 @@ static const struct option {
     {"progress", FLAG, offsetof(struct options, progress)},
     {"check", FLAG, offsetof(struct options, check)},
     {"committed", FLAG, offsetof(struct options, committed)},
+    {"again", FLAG, offsetof(struct options, again)},
+    {"close", FLAG, offsetof(struct options, close)},
 };
 
 static const char *const see = "'legbaro help' and legbaro(1) tell the commands and their options.";

@@ -11,7 +11,7 @@
 struct options {
     const char *folder, *key, *host, *old, *plan, *at, *id, *out, *svg, *lost, *lost_parity;
     uint64_t role, version, mark, block_bytes, rows, positions, tokens, blocks, damaged, data, parity;
-    uint64_t json, progress, check, committed;
+    uint64_t json, progress, check, committed, again, close;
     int asked; /* the command begins with 'ask' */
     char **words;
     int count;

@@ -37,8 +37,7 @@ int run_pool(const struct options *o)
 
 struct pool {
     int count;
-    struct folder folders[LEGBARO_MOST_POOLED];
-    struct bytes cards[LEGBARO_MOST_POOLED];
+    struct owner owners[LEGBARO_MOST_POOLED];
 };
 
 /* The cards in the order of the reply, as far as it names their files. */
@@ -46,13 +45,10 @@ static void order(struct pool *pool, struct bytes reply)
 {
     for (int i = 0; i < pool->count; i++)
         for (int k = i; k < pool->count; k++)
-            if (!memcmp(reply.at + FRONT_BYTES + i * FILE_BYTES, pool->cards[k].at + LEGBARO_CARD_ID, LEGBARO_ID_BYTES)) {
-                struct folder folder = pool->folders[i];
-                struct bytes card = pool->cards[i];
-                pool->folders[i] = pool->folders[k];
-                pool->cards[i] = pool->cards[k];
-                pool->folders[k] = folder;
-                pool->cards[k] = card;
+            if (!memcmp(reply.at + FRONT_BYTES + i * FILE_BYTES, pool->owners[k].card.at + LEGBARO_CARD_ID, LEGBARO_ID_BYTES)) {
+                struct owner owner = pool->owners[i];
+                pool->owners[i] = pool->owners[k];
+                pool->owners[k] = owner;
                 break;
             }
 }
@@ -64,10 +60,8 @@ static struct pool open_pool(int count, char **paths)
         for (int k = 0; k < i; k++)
             if (!strcmp(paths[i], paths[k]))
                 refuse(TURNED_AWAY, code_next(LEGBARO_BAD_POOL), "%s is named twice (code %d)", paths[i], LEGBARO_BAD_POOL);
-        pool.folders[i] = lock_folder(paths[i], 0);
-        pool.cards[i] = read_card(paths[i]);
-        settle(&pool.folders[i], pool.cards[i]);
-        if (!in_card(pool.cards[i], LEGBARO_CARD_OPEN, 4)) {
+        pool.owners[i] = open_card(paths[i]);
+        if (!in_card(pool.owners[i].card, LEGBARO_CARD_OPEN, 4)) {
             about(path_in(paths[i], "card"));
             field("code", LEGBARO_NONE_OPEN);
             refuse(
@@ -85,18 +79,20 @@ static struct bytes joined(const struct pool *pool)
     struct bytes cards = room((size_t)pool->count * LEGBARO_TWO_STEP_CARD_BYTES);
     cards.length = 0;
     for (int i = 0; i < pool->count; i++) {
-        memcpy(cards.at + cards.length, pool->cards[i].at, pool->cards[i].length);
-        cards.length += pool->cards[i].length;
+        memcpy(cards.at + cards.length, pool->owners[i].card.at, pool->owners[i].card.length);
+        cards.length += pool->owners[i].card.length;
     }
     return cards;
 }
 
-static void store_cards(const struct pool *pool, struct bytes cards)
+static void prepare_cards(struct pool *pool, struct bytes cards)
 {
     for (int i = 0; i < pool->count; i++) {
-        struct bytes card = {cards.at, pool->cards[i].length};
-        store_card(&pool->folders[i], card);
+        struct bytes card = pool->owners[i].card;
+        memcpy(card.at, cards.at, card.length);
         cards.at += card.length;
+        settle(&pool->owners[i]);
+        prepare_card(&pool->owners[i]);
     }
 }
 
@@ -115,6 +111,7 @@ int run_judge_pool(const struct options *o)
     enum status status = result == LEGBARO_OK ? DONE : REJECTED;
     if (result != LEGBARO_OK && LEGBARO_CODE(result) != LEGBARO_REJECTED)
         turn_away(result, "the cards");
+    prepare_cards(&pool, cards);
     field("files", (uint64_t)pool.count);
     field_text("verdict", status == DONE ? "accepted" : "rejected");
     if (status == DONE)
@@ -124,6 +121,7 @@ int run_judge_pool(const struct options *o)
             "which it is",
             pool.count);
     ended(status);
-    store_cards(&pool, cards);
+    for (int i = 0; i < pool.count; i++)
+        place_card(&pool.owners[i]);
     return (int)status;
 }

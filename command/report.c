@@ -20,7 +20,7 @@ static struct {
     uint64_t number;
 } fields[MOST_FIELDS];
 
-static int count, json;
+static int count, json, told = -1; /* told: the status that an object was printed with */
 static const char *command = "", *stands, *subject;
 
 void report_as(const char *name, int as_json)
@@ -114,6 +114,7 @@ int ended(enum status status)
         }
         puts("}");
         json = 0;
+        told = (int)status;
     }
     if (fflush(stdout) != 0)
         file_fault("write", "standard output");
@@ -133,7 +134,10 @@ static void refuse_in_words(enum status status, const char *next, const char *wh
         fflush(stdout);
         fprintf(stderr, "legbaro: %s.\n%s%s\n", what, *next ? "  " : "", next);
     }
-    exit(ended(status));
+    if (told < 0)
+        exit(ended(status));
+    /* The object for programs was printed: the exit status is the one in it. */
+    exit(told);
 }
 
 void refuse(enum status status, const char *next, const char *format, ...)
