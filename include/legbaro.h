@@ -118,6 +118,12 @@
 #ifndef LEGBARO_H
 #define LEGBARO_H
 
+/* The version of the library and of the command. */
+#define LEGBARO_VERSION_MAJOR 1
+#define LEGBARO_VERSION_MINOR 0
+#define LEGBARO_VERSION_PATCH 0
+#define LEGBARO_VERSION "1.0.0"
+
 /* Versions of a file, and the marks of a block. */
 #define LEGBARO_WITHOUT_MARKS 1
 #define LEGBARO_WITH_MARKS 2
