@@ -38,9 +38,10 @@ _legbaro_options() { # COMMAND SECOND
     append | load | batch) echo --role --host --key --progress ;;
     update | delete) echo --role --host --key --progress --old --mark ;;
     commit | drop) echo --role ;;
-    draw) echo --role --key --plan --at ;;
+    draw) echo --role --key --plan --at --again ;;
     wait) echo --plan --at ;;
-    cause | judge | judge-pool) echo --role --key ;;
+    cause) echo --role --key ;;
+    judge | judge-pool) echo --role --key --close ;;
     apply) echo --check --committed ;;
     prove | pool) echo --out ;;
     positions) echo --positions --rows --blocks ;;

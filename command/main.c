@@ -32,7 +32,7 @@ static const struct command commands[] = {
     {"wait", " plan at ", 0, 0, "", "how long until the plan allows a draw", run_wait},
     {"cause", " role key ", 1, 1, "REPLY", "why judge would reject a reply", run_cause},
     {"judge", " role key close ", 1, 1, "REPLY", "judge the host's reply", run_judge},
-    {"judge-pool", " role key ", 3, 17, "REPLY FOLDER..", "judge one reply for several files", run_judge_pool},
+    {"judge-pool", " role key close ", 3, 17, "REPLY FOLDER..", "judge one reply for several files", run_judge_pool},
     {"show", " ", 0, 0, "", "a card, or what stands at the host, in words", run_show},
     {"apply", " check committed ", 0, 1, "[CHANGE]", "host: put a change in place", run_apply},
     {"prove", " out ", 1, 1, "MESSAGE", "host: answer a message", run_prove},
