@@ -41,11 +41,11 @@ _legbaro_options() { # COMMAND SECOND
     draw) echo --role --key --plan --at ;;
     wait) echo --plan --at ;;
     cause | judge | judge-pool) echo --role --key ;;
-    apply) echo --check --committed ;;
-    prove | pool) echo --out ;;
+    apply) echo --check --committed --progress ;;
+    prove | pool) echo --out --force ;;
     positions) echo --positions --rows --blocks ;;
-    sheet) echo --block-bytes --rows --positions --tokens --blocks --damaged --svg ;;
-    parity) echo --block-bytes --data --parity --out "$([ "$2" != rebuild ] || echo --lost --lost-parity)" ;;
+    sheet) echo --block-bytes --rows --positions --tokens --blocks --damaged --svg --force ;;
+    parity) echo --block-bytes --data --parity --out --force "$([ "$2" != rebuild ] || echo --lost --lost-parity)" ;;
     esac
 }
 
