@@ -42,11 +42,11 @@ _legbaro_options() { # COMMAND SECOND
     wait) echo --plan --at ;;
     cause) echo --role --key ;;
     judge | judge-pool) echo --role --key --close ;;
-    apply) echo --check --committed ;;
-    prove | pool) echo --out ;;
+    apply) echo --check --committed --progress ;;
+    prove | pool) echo --out --force ;;
     positions) echo --positions --rows --blocks ;;
-    sheet) echo --block-bytes --rows --positions --tokens --blocks --damaged --svg ;;
-    parity) echo --block-bytes --data --parity --out "$([ "$2" != rebuild ] || echo --lost --lost-parity)" ;;
+    sheet) echo --block-bytes --rows --positions --tokens --blocks --damaged --svg --force ;;
+    parity) echo --block-bytes --data --parity --out --force "$([ "$2" != rebuild ] || echo --lost --lost-parity)" ;;
     esac
 }
 

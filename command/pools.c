@@ -2,6 +2,7 @@
 #include "change.h"
 #include "codes.h"
 #include "commands.h"
+#include "output.h"
 #include "owner.h"
 #include "report.h"
 #include "tell.h"
@@ -14,23 +15,35 @@
 /* A pooled reply has a front, and for each file its id, the token and the record. */
 enum { FRONT_BYTES = LEGBARO_POOLED_BYTES(0), FILE_BYTES = LEGBARO_POOLED_BYTES(1) - FRONT_BYTES };
 
+/* Whether bytes are a pooled reply: its own length is its first field. */
+static int is_pooled(struct bytes bytes)
+{
+    return bytes.length >= LEGBARO_POOLED_BYTES(LEGBARO_LEAST_POOLED) &&
+           bytes.length <= LEGBARO_POOLED_BYTES(LEGBARO_MOST_POOLED) &&
+           (bytes.length - FRONT_BYTES) % FILE_BYTES == 0 &&
+           number_at(bytes.at, 2) == bytes.length - 2;
+}
+
 int run_pool(const struct options *o)
 {
-    struct bytes replies = room((size_t)o->count * LEGBARO_REPLY_BYTES), pooled = room(LEGBARO_POOLED_BYTES((size_t)o->count));
+    size_t count = (size_t)o->count;
+    struct bytes replies = room(count * LEGBARO_REPLY_BYTES),
+                 pooled = room(LEGBARO_POOLED_BYTES(count));
     const struct piece piece = {pooled.at, pooled.length};
-    const char *out = o->out ? o->out : path_in(o->folder, "pooled");
-    for (int i = 0; i < o->count; i++) {
-        struct bytes reply = map_whole(o->words[i], LEGBARO_REPLY_BYTES, "a reply", "Prove again.");
-        memcpy(replies.at + (size_t)i * LEGBARO_REPLY_BYTES, reply.at, reply.length);
+    for (size_t i = 0; i < count; i++) {
+        struct bytes reply =
+            small_whole(o->words[i], LEGBARO_REPLY_BYTES, "a reply", "Prove again.");
+        memcpy(replies.at + i * LEGBARO_REPLY_BYTES, reply.at, reply.length);
     }
+    struct output out = check_output(o, o->out, "pooled", is_pooled);
     uint64_t result = legbaro_pool(LENT(replies), LENT(pooled));
     if (result != LEGBARO_OK)
         turn_away(result, text("the %d replies", o->count));
-    store_at(out, &piece, 1);
+    write_output(&out, &piece, 1);
     field("files", (uint64_t)o->count);
-    field_text("file", out);
+    field_text("file", out.path);
     say("%d replies are one of %zu bytes", o->count, pooled.length);
-    say("next: send %s to the owner", out);
+    say("next: send %s to the owner", out.path);
     return ended(DONE);
 }
 
