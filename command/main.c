@@ -27,7 +27,7 @@ static const struct command commands[] = {
     {"ask update", CORRECTIONS, 2, 2, "NUMBER BLOCK", "ask for an update", run_update},
     {"ask delete", CORRECTIONS, 1, 1, "NUMBER", "ask for a deletion", run_delete},
     {"ask batch", CHANGES, 1, 1, "LIST", "ask for a batch", run_batch},
-    {"commit", " role ", 0, 0, "", "let the change that is pending stand", run_commit},
+    {"commit", " role again ", 0, 0, "", "let the change that is pending stand", run_commit},
     {"drop", " role ", 0, 0, "", "give the change that is pending up", run_drop},
     {"draw", " role key plan at again ", 0, 0, "", "draw a token: the message for the host", run_draw},
     {"wait", " plan at ", 0, 0, "", "how long until the plan allows a draw", run_wait},
