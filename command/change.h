@@ -40,7 +40,8 @@ struct change read_change(const char *path);
 /* The header of a file that may be cut or none; answers whether it has one. */
 int peek_change(const char *path, struct change *change);
 
-/* An id in words: up to eight letters. */
+/* An id in words: its characters in UTF-8, and \xNN for a backslash, a control character and a byte that
+ * is no part of a character. Different ids have different words. */
 const char *id_words(const uint8_t *id);
 
 #endif
