@@ -152,7 +152,9 @@ static const char *unknown_next(const struct groups *g, int last)
         return text("The last group agrees if %s is cut and had %" PRIu64 " blocks: give --blocks %" PRIu64 ".", g->o->words[0],
                     before, before);
     return text("%s Otherwise find out which blocks are wrong, from copies or dates, and give them with --lost.%s", if_changed,
-                last && g->o->blocks == UNTOLD ? " If the file is cut, give --blocks, the number of blocks that it had." : "");
+                !last                      ? ""
+                : g->o->blocks == UNTOLD ? " If the file is cut, give --blocks, the number of blocks that it had."
+                                         : " Look whether --blocks is the number of blocks that the file had.");
 }
 
 /* What to do where the blocks that do not agree are named: to rebuild without them, and without those that
@@ -247,7 +249,7 @@ static void refuse_lost(const char *option, const char *what)
     refuse(TURNED_AWAY, "Give the number of each lost block once.", "%s: %s (code %d)", option, what, LEGBARO_BAD_GROUP);
 }
 
-/* Takes blocks as lost: numbers and ranges with commas between them. A block that is MISSING stays so. */
+/* Takes blocks as lost: numbers and ranges with commas between them. */
 static void read_lost(const char *option, const char *list, uint8_t *states, uint64_t most)
 {
     uint64_t from, to;
@@ -258,9 +260,9 @@ static void read_lost(const char *option, const char *list, uint8_t *states, uin
         if (!from || to > most)
             refuse_lost(option, text("there is no block %" PRIu64 ", but 1 to %" PRIu64, from ? to : from, most));
         for (uint64_t i = from - 1; i < to; i++) {
-            if (states[i] == LOST)
+            if (states[i] & LOST)
                 refuse_lost(option, text("block %" PRIu64 " is given twice", i + 1));
-            states[i] = states[i] == HERE ? LOST : states[i];
+            states[i] |= LOST;
         }
     }
 }
@@ -274,6 +276,20 @@ static void refuse_wrong(const struct groups *g, struct group *group)
     tell_wrong(g);
     refuse(REJECTED, next, "group %" PRIu64 " (%s): %s; nothing is written", group->number + 1, group_words(g, group->number),
            found ? wrong_words(g, group->number) : "the blocks that are left do not agree, and which are wrong can't be known");
+}
+
+/* Ends the program where blocks of the last group are missing, and no parity block is left over: with a
+ * wrong --blocks these would be made wrong. Who gives them as lost too stands for the number. */
+static void refuse_unsure(const struct groups *g, const struct group *group)
+{
+    uint8_t *first = g->states + group->number * g->data;
+    if (group->number != g->count - 1 || group->lost < g->parity || !memchr(first, MISSING, group->data))
+        return;
+    const char *missing = list_of(g->states, 0, g->blocks, MISSING | LOST);
+    about(g->o->words[0]);
+    refuse(TURNED_AWAY, text("If it had %s for certain, give --lost %s too.", counted(g->blocks, "block", "blocks"), missing),
+           "no parity block is left over to check the last group, and so the number of blocks that %s had; nothing is written",
+           g->o->words[0]);
 }
 
 /* The data of a group as they are written: from the file, or a copy of those that were made. */
@@ -317,6 +333,7 @@ int run_parity_rebuild(const struct options *o)
             refuse_group(&g, i, result);
         if (!agrees(&g, &group))
             refuse_wrong(&g, &group);
+        refuse_unsure(&g, &group);
         pieces[i] = data_piece(&g, &group);
         rebuilt += group.lost != 0;
         unchecked += group.lost == g.parity;
