@@ -44,12 +44,12 @@ int sifted(uint64_t *list, int count, uint64_t most)
 int positions_shown(const struct numbers *of, uint64_t list[MOST_SHOWN])
 {
     uint64_t r = of->positions, most = most_positions(of);
-    uint64_t all[] = {r / 8, r / 4, r / 2, r, 2 * r, 4 * r, most}, *first = all;
+    uint64_t all[] = {r / 8, r / 4, r / 2, r, 2 * r, 4 * r, 8 * r, 16 * r, most}, *first = all;
     int count = sifted(all, sizeof all / sizeof *all, most);
-    if (count > MOST_SHOWN) {
-        first++;
-        count--;
-    }
+    for (; count > MOST_SHOWN && all[count - 2] > 4 * r; count--)
+        all[count - 2] = all[count - 1];
+    first += count > MOST_SHOWN ? count - MOST_SHOWN : 0;
+    count -= (int)(first - all);
     memcpy(list, first, (size_t)count * sizeof *list);
     return count;
 }

@@ -47,7 +47,7 @@ static void print_numbers(const struct numbers *of)
 
 static void line(const char *what, const char *value)
 {
-    say("    %-40s %22s", what, value);
+    say("    %-38s %32s", what, value);
 }
 
 static void line_range(const char *what, uint64_t least, uint64_t most)
