@@ -61,7 +61,8 @@ static void read_told(struct set_up *s, const struct options *o)
     needs_number(o->positions, "--positions");
     needs_number(o->tokens, "--tokens");
     if (strlen(o->id) > LEGBARO_ID_BYTES)
-        refuse(WRONG_USE, "Take a name of 1 to 8 letters.", "--id: '%s' has %zu letters", o->id, strlen(o->id));
+        refuse(WRONG_USE, "Choose an id of 1 to 8 bytes; a letter outside ASCII has 2 to 4.", "--id: '%s' has %zu bytes", o->id,
+               strlen(o->id));
     memcpy(s->id, o->id, strlen(o->id));
 }
 
@@ -71,10 +72,12 @@ static void count_blocks(struct set_up *s, const char *path)
     s->blocks = map_file(path);
     s->count = s->o->block_bytes ? s->blocks.length / s->o->block_bytes : 0;
     about(path);
-    if (s->o->block_bytes && (!s->count || s->blocks.length % s->o->block_bytes))
+    if (s->o->block_bytes && (!s->count || s->blocks.length % s->o->block_bytes)) {
+        field("code", LEGBARO_NOT_WHOLE_BLOCKS);
         refuse(TURNED_AWAY, "Look whether it is cut, and whether --block-bytes is right.",
                "%s has %zu bytes, which are no whole blocks of %" PRIu64 " bytes (code %d)", path, s->blocks.length, s->o->block_bytes,
                LEGBARO_NOT_WHOLE_BLOCKS);
+    }
 }
 
 /* Change and card are stored together, as owner.h says. */
@@ -112,12 +115,12 @@ int run_set_up(const struct options *o)
     if (result != LEGBARO_OK)
         turn_away(result, o->words[0]);
     store_both(&folder, &s);
-    field_text("id", o->id);
+    field_text("id", id_words(s.id));
     field("blocks", s.count);
     field_text("file", path_in(o->folder, "change"));
     say("%s is set up: %" PRIu64 " blocks of %" PRIu64 " bytes in %" PRIu64 " rows, %" PRIu64 " tokens of %" PRIu64
         " positions, version %" PRIu64,
-        o->id, s.count, o->block_bytes, o->rows, o->tokens, o->positions, o->version);
+        id_words(s.id), s.count, o->block_bytes, o->rows, o->tokens, o->positions, o->version);
     tell_totals(s.totals);
     say("next: send %s to the host, who runs 'legbaro apply change'", path_in(o->folder, "change"));
     return ended(DONE);
