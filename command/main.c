@@ -42,7 +42,8 @@ static const struct command commands[] = {
     {"sheet", " block-bytes rows positions tokens blocks damaged svg force ", 0, 0, "", "room, reading, work and risk of a planned file",
      run_sheet},
     {"parity encode", " block-bytes data parity out force ", 1, 1, "BLOCKS", "parity blocks for the blocks of a file", run_parity_encode},
-    {"parity rebuild", " block-bytes data parity lost lost-parity out force ", 2, 2, "BLOCKS PARITY", "lost blocks from the others",
+    {"parity check", " block-bytes data parity blocks ", 2, 2, "BLOCKS PARITY", "whether blocks and parity agree", run_parity_check},
+    {"parity rebuild", " block-bytes data parity blocks lost lost-parity out force ", 2, 2, "BLOCKS PARITY", "lost blocks from the others",
      run_parity_rebuild},
 };
 
