@@ -47,7 +47,7 @@ class Runner:
     def run(self, words, way):
         """Exit status, whether the command was killed (then its work is done or not begun), and where."""
         env, what = dict(os.environ), way[0] if way else None
-        kind = next(word for word in words if not word.startswith("-") and "/" not in word)
+        kind = words[2] if words[0] == "-C" else words[0]
         known = self.calls.get(kind, FIRST_CALLS)
         at = 1 + int(way[1] * (known + MORE_CALLS)) if way else 0
         if way and what != "kill":

@@ -14,7 +14,7 @@ class Workload:
     def __init__(self, world):
         self.w, self.dice, self.count = world, world.runner.dice, 0
 
-    def way(self, chance=0.33):
+    def way(self, chance=0.5):
         return self.w.runner.way() if self.dice.random() < chance else None
 
     def blocks(self, f_book, count):
