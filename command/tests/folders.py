@@ -21,6 +21,9 @@ ENDS = ("stop", "torn", "power")
 ASIDE = re.compile(r"\.\d+$")
 OWNER_NAMES = {"card", "card.sum", "change", "message", "committed"}
 HOST_NAMES = {"blocks", "marks", "table", "stands", "reply", "applying"}
+# What the command before issue 38 lacks: refusals that leave every byte, of owner and host; the checksum of the card; the receipt of a commit;
+# `judge` that leaves a draw open, and --close; `draw --again`; `show` that settles; a change that supersedes a damaged `applying`.
+LACKS = ("owner", "host", "checksum", "receipt", "close", "again", "show", "supersede")
 FIRST_CALLS, MORE_CALLS, FIRST_DELAY = 6, 3, 0.002
 
 
@@ -94,8 +97,10 @@ class File:
 
 
 class World:
-    def __init__(self, runner, today):
-        self.runner, self.today, self.root = runner, today, runner.root
+    """`lacks` names what an earlier command has not: LACKS."""
+
+    def __init__(self, runner, lacks):
+        self.runner, self.lacks, self.root = runner, lacks, runner.root
         self.files, self.seen, self.checked, self.killed = [], {}, 0, 0
         self.trace = []
         self.key = None
@@ -147,8 +152,9 @@ class World:
         now = self.look()
         changed = sorted(name for name in before.keys() | now.keys() if before.get(name) != now.get(name))
         need(now["keys/key"] == self.key, "the key has changed")
-        if not killed and status >= 2 and not self.today:
-            need(not changed, "a refused command changed", *changed)
+        if not killed and status >= 2:
+            lax = tuple(side for side in ("owner", "host") if side in self.lacks)
+            need(not [name for name in changed if name.split("/")[1] not in lax], "a refused command changed", *changed)
         for name in changed:
             need(name.startswith(("keys/key.ids",) + tuple(folder + "/" for folder in folders)), name, "is changed by another's command")
         for name, content in now.items():
@@ -268,10 +274,10 @@ def distinct(hosts):
     return [host for at, host in enumerate(hosts) if host not in hosts[:at]]
 
 
-def new_world(legbaro, shim, root, seed, today):
+def new_world(legbaro, shim, root, seed, lacks=()):
     """A world with a key, which is random by its seed."""
     dice = random.Random(seed)
-    world = World(Runner(legbaro, shim, root, dice), today)
+    world = World(Runner(legbaro, shim, root, dice), lacks)
     world.key = dice.randbytes(32)
     world.write("keys/key", world.key)
     os.chmod(world.path("keys/key"), 0o600)

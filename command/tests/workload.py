@@ -102,7 +102,7 @@ class Workload:
         now = f.owner.book
         after = replace(f.owner, book=now.committed()) if now.asked else f.owner
         _, killed = self.w.owner_step(["-C", f.at, "commit"], [(f, after)], {DONE} if now.asked else REFUSED, self.way())
-        if now.asked and not killed and not self.w.today:
+        if now.asked and not killed and "receipt" not in self.w.lacks:
             need(f.at + "/committed" in self.w.snap, "a commit left no receipt")
 
     def drop(self, f):
@@ -129,8 +129,8 @@ class Workload:
     def judge(self, f):
         path, reply = self.reply(f)
         now = f.owner.book
-        cause, close = now.cause(reply), not self.w.today and self.dice.random() < 0.1
-        closes = now.open and (cause in (0, 6) or close or self.w.today)
+        cause, close = now.cause(reply), "close" not in self.w.lacks and self.dice.random() < 0.1
+        closes = now.open and (cause in (0, 6) or close or "close" in self.w.lacks)
         status = {REJECTED if cause else DONE} if closes else REFUSED
         after = replace(f.owner, book=now.judged(), message=None) if closes else f.owner
         words = ["-C", f.at, "judge", "--key", "keys/key", path] + (["--close"] if close else [])
@@ -139,16 +139,23 @@ class Workload:
     def cause(self, f):
         path, reply = self.reply(f)
         status = REFUSED if not f.owner.book.open else {REJECTED if f.owner.book.cause(reply) else DONE}
-        self.w.owner_step(["-C", f.at, "cause", "--key", "keys/key", path], [(f, f.owner)], status, self.way())
+        words = ["-C", f.at, "cause", "--key", "keys/key", path]
+        if "show" in self.w.lacks:
+            return self.w.owner_step(words, [(f, f.owner)], status, self.way())
+        return self.reads(words, status)
 
     def show(self, f):
-        status, _ = self.w.command(["-C", f.host_at, "show"], [], None)
-        need(status == DONE or not f.hosts[0].header or len(f.hosts) > 1, "show of a host has status", status)
+        self.reads(["-C", f.host_at, "show"], {DONE} if f.hosts[0].header and len(f.hosts) == 1 else {DONE} | REFUSED)
         self.settle_owner(f)
+
+    def reads(self, words, statuses):
+        """A command that writes nothing."""
+        status, killed = self.w.command(words, [], self.way())
+        need(killed or status in statuses, "status", status, "in place of", *sorted(statuses))
 
     def settle_owner(self, f):
         """A command that settles the owner's folder and changes nothing else."""
-        if not self.w.today:
+        if "show" not in self.w.lacks:
             return self.w.owner_step(["-C", f.at, "show"], [(f, f.owner)], {DONE}, self.way(0.2))
         nothing = self.w.write("sent/nothing", b"")
         self.w.owner_step(["-C", f.at, "cause", "--key", "keys/key", nothing], [(f, f.owner)], {REJECTED} | REFUSED)
@@ -173,7 +180,7 @@ class Workload:
     def receipt(self, f):
         """The words by which a host says that an asked change is committed."""
         path = f.at + "/committed"
-        return ["--committed", path] if path in self.w.snap else ["--committed"] if self.w.today else []
+        return ["--committed", path] if path in self.w.snap else ["--committed"] if "receipt" in self.w.lacks else []
 
     def apply(self, f, check=False):
         """The owner's change as it is there, now and then an older one or a damaged one."""
@@ -188,7 +195,7 @@ class Workload:
         if damaged:
             path = self.w.write("sent/change", self.dice.choice((change.file()[:-1], flipped(change.file(), self.dice), b"")))
         stands = change is not None and change.counter <= now.ctr and change == f.owner.change
-        words = self.receipt(f) if change and change.asked and (stands or not self.w.today) and not check else []
+        words = self.receipt(f) if change and change.asked and (stands or "receipt" not in self.w.lacks) and not check else []
 
         def outcome(host):
             if not change or damaged or (not host.header and change.header[4]):
