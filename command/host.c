@@ -222,6 +222,7 @@ static void put_applying(struct host *host, const struct change *c)
 void put_in_place(struct host *host, const struct change *change)
 {
     struct change rest = *change;
+    decided("What stands has not changed. Mend what is wrong, and run the command again.");
     if (host->damaged) {
         must(cut_back(host, "blocks", change->block_bytes), host, "blocks");
         if (has_marks(change))
