@@ -167,13 +167,16 @@ static void read_lines(struct plan *plan)
 {
     struct bytes file = read_small(plan->path, MOST_TEXT_BYTES, "a plan");
     struct reading r = {plan, 0, {0}};
+    char *lines = (char *)room(file.length + 1).at;
+    memcpy(lines, file.at, file.length);
     for (size_t at = 0, length; at < file.length; at += length + 1) {
-        const uint8_t *end = memchr(file.at + at, '\n', file.length - at);
-        length = (end ? (size_t)(end - file.at) : file.length) - at;
+        const char *end = memchr(lines + at, '\n', file.length - at);
+        length = (end ? (size_t)(end - lines) : file.length) - at;
+        lines[at + length] = 0;
         r.line++;
-        if (memchr(file.at + at, 0, length))
+        if (strlen(lines + at) < length)
             bad_line(&r, "A plan is a text: write it again with an editor.", "it has a NUL byte");
-        read_line(&r, text("%.*s", (int)length, (const char *)file.at + at));
+        read_line(&r, lines + at);
     }
 }
 
