@@ -20,10 +20,12 @@ REFUSED = frozenset((2, 3, 4))
 ENDS = ("stop", "torn", "power")
 ASIDE = re.compile(r"\.\d+$")
 OWNER_NAMES = {"card", "card.sum", "change", "message", "committed"}
-HOST_NAMES = {"blocks", "marks", "table", "stands", "reply", "applying"}
+HOST_NAMES = {"blocks", "marks", "table", "stands", "reply"}
+HALF = ("adding", "applying")  # files of a host that are there while a change is half in place
 # What the command before issue 38 lacks: refusals that leave every byte, of owner and host; the checksum of the card; the receipt of a commit;
-# `judge` that leaves a draw open, and --close; `draw --again`; `show` that settles; a change that supersedes a damaged `applying`.
-LACKS = ("owner", "host", "checksum", "receipt", "close", "again", "show", "supersede")
+# `judge` that leaves a draw open, and --close; `draw --again`; `show` that settles; a change that supersedes a damaged `applying`; outputs that
+# replace nothing else; the list of ids.
+LACKS = ("owner", "host", "checksum", "receipt", "close", "again", "show", "supersede", "outputs", "ids")
 FIRST_CALLS, MORE_CALLS, FIRST_DELAY = 6, 3, 0.002
 
 
@@ -86,7 +88,8 @@ class File:
     name: str
     set_up: tuple  # words of the set-up, and the owner after it
     owner: Owner = None
-    settled: bool = True
+    settled: bool = True  # the owner's folder, since the last kill
+    damaged: bool = False  # the host's folder, from outside
     stale: dict = field(default_factory=lambda: {"change": {None}, "message": {None}})
     hosts: list = field(default_factory=lambda: [book.Host()])
     sent: list = field(default_factory=list)  # changes that were issued, the newest last
@@ -236,7 +239,7 @@ class World:
         return status, False
 
     def host_at_rest(self, f):
-        return not {name for name in self.names(f.host_at) if name == "applying" or name.endswith(".new")}
+        return not {name for name in self.names(f.host_at) if name in HALF or name.endswith(".new")}
 
     def host_differs(self, f, host):
         wants = {name: getattr(host, name) for name in ("stands", "blocks", "marks", "table", "reply")}

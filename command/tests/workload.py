@@ -201,7 +201,7 @@ class Workload:
             if not change or damaged or (not host.header and change.header[4]):
                 return REFUSED, host
             if host.stands == change.stands():
-                return {DONE} | REFUSED if change.asked and not stands else {DONE}, host
+                return {DONE} | REFUSED if change.asked and not stands or f.damaged else {DONE}, host
             if not host.follows(change) or (change.asked and not check and not (stands and words)):
                 return REFUSED, host
             return {DONE} | (set() if host.header else REFUSED) if check else {DONE}, host if check else host.applied(change)
