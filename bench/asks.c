@@ -1,7 +1,7 @@
 /* See asks.h. */
 #include "asks.h"
 
-#include "files.h"
+#include "support/files.h"
 #include "pairs.h"
 
 #include <stdio.h>

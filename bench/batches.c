@@ -1,7 +1,7 @@
 /* See batches.h. */
 #include "batches.h"
 
-#include "files.h"
+#include "support/files.h"
 #include "pairs.h"
 
 #include <stdio.h>

@@ -13,16 +13,16 @@
 #define _XOPEN_SOURCE 700
 #include "asks.h"
 #include "batches.h"
-#include "chance.h"
+#include "support/chance.h"
 #include "codes.h"
-#include "files.h"
-#include "groups.h"
+#include "support/files.h"
+#include "support/expect.h"
 #include "helper.h"
 #include "loads.h"
 #include "parity.h"
 #include "proofs.h"
-#include "second.h"
-#include "times.h"
+#include "reference/reference.h"
+#include "timing.h"
 
 #include <openssl/crypto.h>
 #include <stdio.h>

@@ -2,7 +2,7 @@
 #define _XOPEN_SOURCE 700
 #include "codes.h"
 
-#include "run.h"
+#include "support/dispatch.h"
 
 #include <sys/wait.h>
 #include <unistd.h>

@@ -2,7 +2,7 @@
 #ifndef CODES_H
 #define CODES_H
 
-#include "calls.h"
+#include "support/calls.h"
 
 /* Each runs the call on its buffers and answers the number that it returns. */
 uint64_t call_plain(struct call *call);

@@ -1,7 +1,7 @@
 /* See loads.h. */
 #include "loads.h"
 
-#include "files.h"
+#include "support/files.h"
 #include "pairs.h"
 
 #include <stdio.h>

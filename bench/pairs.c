@@ -2,7 +2,7 @@
 #include "pairs.h"
 
 #include "codes.h"
-#include "times.h"
+#include "timing.h"
 
 #include <stdio.h>
 

@@ -2,7 +2,7 @@
 #ifndef PAIRS_H
 #define PAIRS_H
 
-#include "calls.h"
+#include "support/calls.h"
 
 /* The calls are accepted again and again on their own buffers. An update goes through the first n blocks. */
 struct pair {

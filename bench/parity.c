@@ -2,9 +2,9 @@
 #include "parity.h"
 
 #include "codes.h"
-#include "groups.h"
-#include "parities.h"
-#include "times.h"
+#include "support/expect.h"
+#include "support/parity_calls.h"
+#include "timing.h"
 
 #include <isa-l.h>
 #include <stdio.h>

@@ -1,8 +1,8 @@
 /* See proofs.h. */
 #include "proofs.h"
 
-#include "chance.h"
-#include "files.h"
+#include "support/chance.h"
+#include "support/files.h"
 #include "pairs.h"
 
 #include <stdio.h>

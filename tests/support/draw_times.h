@@ -1,0 +1,20 @@
+/* Weekly plans and times to lend to a draw or a wait. */
+#ifndef DRAW_TIMES_H
+#define DRAW_TIMES_H
+
+#include "calls.h"
+#include "reference/reference.h"
+
+/* Any time within the limits; gives it to a call. */
+struct when any_time(void);
+void call_at(struct call *call, const struct when *when);
+
+/* A plan without a window; a plan with any windows; gives a weekday, 0 for Monday, a window. */
+struct buffer plan_blank(void);
+struct buffer any_plan(void);
+void plan_window(struct buffer *plan, unsigned weekday, uint64_t start, uint64_t end);
+
+/* Gives the day of a time any window that has the time in it. */
+void plan_allow(struct buffer *plan, const struct when *when);
+
+#endif
