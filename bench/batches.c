@@ -30,7 +30,7 @@ static struct pair pair_of(const struct row *row)
         .B = row->B, .d = row->d, .r = row->r, .t = row->t, .n = row->d, .goal = row->goal, .others = (unsigned)row->items};
     struct file file = file_set_up(LEGBARO_WITHOUT_MARKS, row->B, row->d, row->r, row->t, row->d);
     pair.call = file_batch_call(&file, row->items);
-    make_updates(&file, &pair.call.lent[ITEMS]);
+    make_updates(&file, &pair.call.args[ITEMS]);
     pair.other = file_call(&file, UPDATE);
     snprintf(pair.one, sizeof pair.one, "%u updates", (unsigned)row->items);
     snprintf(pair.beside, sizeof pair.beside, "%u single updates", (unsigned)row->items);

@@ -1,14 +1,14 @@
 /*
- * Times set-up, proof, update, load and batch by each code of the archive and by the second implementation over libcrypto, and a load, a
+ * Times set-up, proof, update, load and batch by each code of the archive and by the reference implementation over libcrypto, and a load, a
  * batch or an ask beside the calls in whose place it stands, and parity beside ISA-L; prints tables that can be pasted into docs/PERFORMANCE.md. What each code
- * writes is compared with the second implementation first. A code that the processor can't run is left out.
+ * writes is compared with the reference implementation first. A code that the processor can't run is left out.
  *
  * libcrypto uses the processor's SHA instructions where it has them; a helper shows what it does without them. In each row all alternate, and
  * the best of each counts.
  *
  *   --beside     the tables of calls beside those in whose place they stand, alone
  *   --parity     the table of parity alone
- *   --headline   one great set-up in place of the tables, whole: as the archive chooses, by the plain code, and by the second implementation
+ *   --headline   one great set-up in place of the tables, whole: as the archive chooses, by the plain code, and by the reference implementation
  */
 #define _XOPEN_SOURCE 700
 #include "asks.h"
@@ -124,7 +124,7 @@ static double helped(int row, unsigned calls)
         last = row;
         call = measured_call(&measures[row]);
     }
-    return timed(call_second, &call, measures[row].n, calls);
+    return timed(call_reference, &call, measures[row].n, calls);
 }
 
 static double timed_by(int way, struct call *call, int row, unsigned calls)
@@ -213,7 +213,7 @@ static void print_measures(const char *program)
 /* All tables, or only those of calls beside others. */
 static void print_tables(const char *program, int only_beside)
 {
-    group_begin("the library and the second implementation write the same");
+    test_begin("the library and the reference implementation write the same");
     print_processor();
     puts(OpenSSL_version(OPENSSL_VERSION));
     if (!only_beside)
@@ -224,7 +224,7 @@ static void print_tables(const char *program, int only_beside)
     print_proofs();
     print_parity();
     putchar('\n');
-    group_end();
+    test_end();
 }
 
 /* Times the great set-up by one way, and expects card, table and totals of the way before. */
@@ -233,8 +233,8 @@ static void print_whole(const char *way, uint64_t (*run)(struct call *), const s
     struct call own = call_copy(call);
     printf("%s: %.1f s\n", way, timed(run, &own, 1, 1) / 1e9);
     fflush(stdout);
-    for (int argument = 0; before->lent[CARD].bytes && argument < ARGUMENTS; argument++)
-        expect(!call_takes(SET_UP, argument) || buffer_same(&own.lent[argument], &before->lent[argument]), "%s: the same bytes", way);
+    for (int argument = 0; before->args[CARD].bytes && argument < ARGUMENTS; argument++)
+        expect(!call_takes(SET_UP, argument) || buffer_same(&own.args[argument], &before->args[argument]), "%s: the same bytes", way);
     call_free(before);
     *before = own;
 }
@@ -242,24 +242,24 @@ static void print_whole(const char *way, uint64_t (*run)(struct call *), const s
 static void print_headline(void)
 {
     struct call call = file_set_up_call(LEGBARO_WITHOUT_MARKS, 4096, 4096, 512, 11680, 4096), before = {.kind = SET_UP};
-    group_begin("the great set-up writes the same each way");
+    test_begin("the great set-up writes the same each way");
     print_processor();
     puts("set-up of 11680 tokens, r = 512, B = 4096, d = 4096");
     print_whole("as chosen", call_library, &call, &before);
     print_whole("plain x86-64, no AVX", call_plain, &call, &before);
-    print_whole("libcrypto", call_second, &call, &before);
+    print_whole("libcrypto", call_reference, &call, &before);
     call_free(&before);
     call_free(&call);
-    group_end();
+    test_end();
 }
 
 static void print_parity_alone(void)
 {
-    group_begin("the library, the second implementation and ISA-L write the same");
+    test_begin("the library, the reference implementation and ISA-L write the same");
     print_processor();
     print_parity();
     putchar('\n');
-    group_end();
+    test_end();
 }
 
 int main(int count, char **words)
@@ -267,7 +267,7 @@ int main(int count, char **words)
     const char *word = count == 2 ? words[1] : "";
     int helper = !strcmp(word, HELPER);
     chance_start(SEED);
-    second_start();
+    reference_start();
     if (helper)
         help(helped);
     else if (!strcmp(word, "--headline"))
@@ -276,6 +276,6 @@ int main(int count, char **words)
         print_parity_alone();
     else
         print_tables(words[0], !strcmp(word, "--beside"));
-    second_end();
-    return helper || groups_passed() ? 0 : 1;
+    reference_end();
+    return helper || tests_passed() ? 0 : 1;
 }

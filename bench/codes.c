@@ -13,17 +13,17 @@
 
 uint64_t call_plain(struct call *call)
 {
-    RUN(legbaro, _x86_64)
+    DISPATCH(legbaro, _x86_64)
 }
 
 uint64_t call_avx2(struct call *call)
 {
-    RUN(legbaro, _avx2)
+    DISPATCH(legbaro, _avx2)
 }
 
 uint64_t call_avx512(struct call *call)
 {
-    RUN(legbaro, _avx512)
+    DISPATCH(legbaro, _avx512)
 }
 
 int code_runs(uint64_t (*run)(struct call *), const struct call *call)

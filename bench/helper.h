@@ -1,4 +1,4 @@
-/* This program once more, as a helper whose libcrypto uses no SHA instructions: it answers how long the second implementation takes. */
+/* This program once more, as a helper whose libcrypto uses no SHA instructions: it answers how long the reference implementation takes. */
 #ifndef HELPER_H
 #define HELPER_H
 

@@ -30,7 +30,7 @@ static void prepare_encode(const struct call *call)
     gf_gen_cauchy1_matrix(matrix, (int)(call->n + call->r), (int)call->n);
     ec_init_tables((int)call->n, (int)call->r, matrix + call->n * call->n, tables);
     for (uint64_t q = 0; q < call->n; q++)
-        from[q] = call->lent[BLOCKS].bytes + q * call->B;
+        from[q] = call->args[BLOCKS].bytes + q * call->B;
     for (uint64_t x = 0; x < call->r; x++)
         to[x] = written + x * call->B;
 }
@@ -56,7 +56,7 @@ static int prepare_rebuild(const struct call *call)
     for (int i = 0; i < k; i++) {
         int source = p + i;
         memcpy(left + i * k, matrix + source * k, (size_t)k);
-        from[i] = call->lent[BLOCKS].bytes + (size_t)source * call->B;
+        from[i] = call->args[BLOCKS].bytes + (size_t)source * call->B;
     }
     int singular = gf_invert_matrix(left, inverted, k);
     ec_init_tables(k, p, inverted, tables);
@@ -139,12 +139,12 @@ static void measure_row(const struct row *row)
     rebuilding = parity_rebuilding(&encoding, lost, row->p);
     prepare_encode(&encoding);
     measure(&encoding, ways, best);
-    expect(!memcmp(written, encoding.lent[OUT].bytes, row->p * row->B), "the parity that ISA-L writes");
+    expect(!memcmp(written, encoding.args[OUT].bytes, row->p * row->B), "the parity that ISA-L writes");
     print_row(row, &encoding, best);
     ways[VECTOR] = rebuild_vector;
     ways[PORTABLE] = rebuild_portable;
     measure(&rebuilding, ways, best);
-    expect(!memcmp(written, rebuilding.lent[OUT].bytes, row->p * row->B), "the data that ISA-L rebuilds");
+    expect(!memcmp(written, rebuilding.args[OUT].bytes, row->p * row->B), "the data that ISA-L rebuilds");
     print_row(row, &rebuilding, best);
     call_free(&encoding);
     call_free(&rebuilding);

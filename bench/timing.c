@@ -1,4 +1,4 @@
-/* See times.h. */
+/* See timing.h. */
 #define _XOPEN_SOURCE 700
 #include "timing.h"
 
@@ -12,7 +12,7 @@
 
 enum { SHORTEST_NS = 4000000, REST_NS = 2000000 };
 
-uint64_t (*const runs[WAYS])(struct call *) = {call_second, call_plain, call_avx2, call_avx512, call_library, NULL};
+uint64_t (*const runs[WAYS])(struct call *) = {call_reference, call_plain, call_avx2, call_avx512, call_library, NULL};
 
 static double now(void)
 {
@@ -34,7 +34,7 @@ static void rest(void)
  * dropped. */
 static void make_ready(struct call *call)
 {
-    struct buffer *card = &call->lent[CARD];
+    struct buffer *card = &call->args[CARD];
     if (call->kind == LOAD && buffer_number(card, LEGBARO_CARD_BLOCKS, 4) > LEGBARO_MOST_BLOCKS / 2)
         buffer_put_number(card, LEGBARO_CARD_BLOCKS, 4, 1);
     if (is_ask(call->kind))

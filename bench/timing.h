@@ -22,7 +22,7 @@ unsigned calls_for(double time);
 /* The best time with one more, where 0 stands for none before it. */
 double lesser(double best, double time);
 
-/* Compares what a code writes with what the second implementation writes. */
+/* Compares what a code writes with what the reference implementation writes. */
 void compare(uint64_t (*run)(struct call *), const struct call *call);
 
 #endif

@@ -19,7 +19,7 @@ static const uint64_t block_bytes[] = {1, 26, 27, 28, 64, 90, 91, 92, LEGBARO_MO
 static struct call settled(enum kind kind, const struct buffer *card)
 {
     struct call call = {.kind = kind, .role = any_permitted(kind)};
-    call.lent[CARD] = buffer_copy(card);
+    call.args[CARD] = buffer_copy(card);
     call_expect(&call, LEGBARO_OK, "accepted");
     return call;
 }
@@ -30,7 +30,7 @@ static void expect_one_more_issued(const struct file *file, const struct buffer 
     struct card numbers = file->book.numbers;
     struct buffer own = buffer_copy(&file->card);
     numbers.last_issued++;
-    second_write_card(own.bytes, &numbers);
+    reference_write_card(own.bytes, &numbers);
     expect(buffer_same(card, &own), "the card as it was, but for one counter more issued");
     buffer_free(&own);
 }
@@ -41,12 +41,12 @@ static void both_ways(const struct file *file, struct call change)
     struct call ask = call_asked(&change);
     call_expect(&change, LEGBARO_OK, "in one step");
     call_expect(&ask, LEGBARO_OK, "asked");
-    struct call commit = settled(COMMIT, &ask.lent[CARD]), drop = settled(DROP, &ask.lent[CARD]);
-    expect(buffer_same(&commit.lent[CARD], &change.lent[CARD]), "the card of the change in one step");
-    expect(buffer_same(&ask.lent[SECOND], &change.lent[TABLE]), "the table of the change in one step");
-    expect(buffer_same(&ask.lent[TOTALS], &change.lent[TOTALS]), "the totals of the change in one step");
-    expect(buffer_same(&ask.lent[TABLE], &file->table), "the standing table as it was");
-    expect_one_more_issued(file, &drop.lent[CARD]);
+    struct call commit = settled(COMMIT, &ask.args[CARD]), drop = settled(DROP, &ask.args[CARD]);
+    expect(buffer_same(&commit.args[CARD], &change.args[CARD]), "the card of the change in one step");
+    expect(buffer_same(&ask.args[SECOND], &change.args[TABLE]), "the table of the change in one step");
+    expect(buffer_same(&ask.args[TOTALS], &change.args[TOTALS]), "the totals of the change in one step");
+    expect(buffer_same(&ask.args[TABLE], &file->table), "the standing table as it was");
+    expect_one_more_issued(file, &drop.args[CARD]);
     call_free(&change);
     call_free(&ask);
     call_free(&commit);
@@ -80,11 +80,11 @@ static void with_spent(uint64_t bytes, uint64_t d)
 static void one_step_and_two(void)
 {
     static const uint64_t rows[] = {1, 5, 17};
-    group_begin("a change asked and committed writes what the change in one step writes");
-    for (size_t b = 0; b < COUNT(block_bytes); b = tried_behind(b, 3))
+    test_begin("a change asked and committed writes what the change in one step writes");
+    for (size_t b = 0; b < COUNT(block_bytes); b = tried_after(b, 3))
         for (size_t i = 0; i < COUNT(rows); i++)
             with_spent(block_bytes[b], rows[i]);
-    group_end();
+    test_end();
 }
 
 /* A change that is turned away, and the same asked: the same number. */
@@ -100,7 +100,7 @@ static void with_bad_records(const struct file *file, enum kind kind)
 {
     for (uint64_t token = file->book.numbers.next; token <= T; token++) {
         struct call change = file_call(file, kind);
-        buffer_flip(&change.lent[TABLE], 8 * (token - 1) * LEGBARO_RECORD_BYTES + chance_below(8 * LEGBARO_RECORD_BYTES));
+        buffer_flip(&change.args[TABLE], 8 * (token - 1) * LEGBARO_RECORD_BYTES + chance_below(8 * LEGBARO_RECORD_BYTES));
         both_refused(change, LEGBARO_BAD_RECORD + 256 * token);
     }
 }
@@ -112,7 +112,7 @@ static void with_bad_arguments(const struct file *file, enum kind kind)
     change.m = N + 1;
     both_refused(change, LEGBARO_NO_SUCH_BLOCK);
     change = file_call(file, kind);
-    change.lent[MARKS].bytes[0] = 2;
+    change.args[MARKS].bytes[0] = 2;
     both_refused(change, LEGBARO_BAD_MARK);
 }
 
@@ -125,7 +125,7 @@ static void all_refused(const struct file *file, uint64_t code)
 
 static void same_refusals(void)
 {
-    group_begin("an ask is turned away as the change in one step is");
+    test_begin("an ask is turned away as the change in one step is");
     struct file file = file_set_up(LEGBARO_TWO_STEPS, B, D, D, T, N);
     file_audit(&file);
     for (enum kind kind = UPDATE; kind <= BATCH; kind++)
@@ -138,7 +138,7 @@ static void same_refusals(void)
     file_do(&file, ASK_APPEND);
     all_refused(&file, LEGBARO_CHANGE_PENDING);
     file_end(&file);
-    group_end();
+    test_end();
 }
 
 /* ---- What the host holds ---- */
@@ -147,11 +147,11 @@ static void same_refusals(void)
 static void expect_cause(const struct file *file, const struct buffer *table, const struct buffer *blocks, uint64_t cause)
 {
     struct call proof = file_call(file, PROVE), why = file_call(file, CAUSE);
-    memcpy(proof.lent[TABLE].bytes, table->bytes, table->length);
+    memcpy(proof.args[TABLE].bytes, table->bytes, table->length);
     if (blocks)
-        memcpy(proof.lent[BLOCKS].bytes, blocks->bytes, blocks->length);
+        memcpy(proof.args[BLOCKS].bytes, blocks->bytes, blocks->length);
     call_expect(&proof, LEGBARO_OK, "accepted");
-    memcpy(why.lent[REPLY].bytes, proof.lent[REPLY].bytes, LEGBARO_REPLY_BYTES);
+    memcpy(why.args[REPLY].bytes, proof.args[REPLY].bytes, LEGBARO_REPLY_BYTES);
     call_finish(&why, LEGBARO_OK + 256 * cause, "the cause");
     call_free(&proof);
 }
@@ -160,7 +160,7 @@ static void expect_cause(const struct file *file, const struct buffer *table, co
 static void expect_bad_table(const struct file *file, const struct buffer *table)
 {
     struct call change = file_call(file, UPDATE);
-    memcpy(change.lent[TABLE].bytes, table->bytes, table->length);
+    memcpy(change.args[TABLE].bytes, table->bytes, table->length);
     both_refused(change, LEGBARO_BAD_RECORD + 256 * file->book.numbers.next);
 }
 
@@ -198,16 +198,16 @@ static void host_holds(enum kind ask)
 
 static void hosts(void)
 {
-    group_begin("the host proves from the table that stands, after a drop and after a commit");
+    test_begin("the host proves from the table that stands, after a drop and after a commit");
     for (enum kind ask = ASK_UPDATE; ask <= ASK_BATCH; ask++)
         host_holds(ask);
-    group_end();
+    test_end();
 }
 
 /* Asks made again and again after drops: each takes a counter of its own. With every token spent the table is copied whole. */
 static void asked_again(void)
 {
-    group_begin("the same change asked again after drops, with tokens unused and with none");
+    test_begin("the same change asked again after drops, with tokens unused and with none");
     for (uint64_t spent = 0; spent <= T; spent += T) {
         struct file file = file_set_up(LEGBARO_TWO_STEPS, B, D, D, T, N);
         for (uint64_t i = 0; i < spent; i++)
@@ -224,7 +224,7 @@ static void asked_again(void)
         file_expect_book(&file);
         file_end(&file);
     }
-    group_end();
+    test_end();
 }
 
 /* ---- The last counters ---- */
@@ -263,12 +263,12 @@ static void last_ask(uint64_t ctr, enum kind settle)
 static void last_counters(void)
 {
     static const uint64_t counters[] = {0, 1, LEGBARO_MOST_COUNTER - 1};
-    group_begin("the last counter issued is looked at, and not by commit and drop");
+    test_begin("the last counter issued is looked at, and not by commit and drop");
     for (size_t i = 0; i < COUNT(counters); i++) {
         last_ask(counters[i], COMMIT);
         last_ask(counters[i], DROP);
     }
-    group_end();
+    test_end();
 }
 
 void test_asks(void)

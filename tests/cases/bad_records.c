@@ -88,10 +88,10 @@ static void expect_mended(const struct call *call, const struct call *sound, con
 {
     size_t spent = (next - 1) * LEGBARO_RECORD_BYTES;
     enum argument written = is_ask(call->kind) ? SECOND : TABLE;
-    expect(buffer_same(&call->lent[CARD], &sound->lent[CARD]), "the card of the change on the sound table");
-    expect(memcmp(call->lent[written].bytes + spent, sound->lent[written].bytes + spent, lent->length - spent) == 0,
+    expect(buffer_same(&call->args[CARD], &sound->args[CARD]), "the card of the change on the sound table");
+    expect(memcmp(call->args[written].bytes + spent, sound->args[written].bytes + spent, lent->length - spent) == 0,
            "the unused records of the change on the sound table");
-    expect(memcmp(call->lent[written].bytes, lent->bytes, spent) == 0, "spent records keep their bytes");
+    expect(memcmp(call->args[written].bytes, lent->bytes, spent) == 0, "spent records keep their bytes");
 }
 
 /* A change with the records of a set damaged: refused with the lowest unused one, if any, and accepted once the records from that number
@@ -103,12 +103,12 @@ static void damaged_set(const struct held *held, enum kind kind, const struct se
     struct call sound = file_call(&held->file, kind), call = call_copy(&sound);
     for (uint64_t i = 1; i <= numbers->t; i++)
         if (set->has[i])
-            damage_record(held, &call.lent[TABLE], i, how);
-    struct buffer lent = buffer_copy(&call.lent[TABLE]);
+            damage_record(held, &call.args[TABLE], i, how);
+    struct buffer lent = buffer_copy(&call.args[TABLE]);
     call_expect(&sound, LEGBARO_OK, "the sound table");
     call_expect(&call, lowest ? LEGBARO_BAD_RECORD + 256 * lowest : LEGBARO_OK, "the lowest unused damaged record");
     if (lowest) {
-        fetch_again(&call.lent[TABLE], &held->file.table, lowest);
+        fetch_again(&call.args[TABLE], &held->file.table, lowest);
         call_expect(&call, LEGBARO_OK, "the records from that number on fetched again");
     }
     expect_mended(&call, &sound, &lent, numbers->next);
@@ -132,7 +132,7 @@ static enum kind any_change(const struct held *held)
 static void every_set(const struct held *held)
 {
     uint64_t t = held->file.book.numbers.t, step = t < 3 ? 1 : 1 << (t - 2);
-    for (uint64_t bits = 0; bits < 1u << t; bits = tried_behind(bits, step)) {
+    for (uint64_t bits = 0; bits < 1u << t; bits = tried_after(bits, step)) {
         struct set set = {{0}};
         for (uint64_t i = 1; i <= t; i++)
             set.has[i] = bits >> (i - 1) & 1;
@@ -159,10 +159,10 @@ static void small_table(uint64_t version, uint64_t t)
 static void small_tables(void)
 {
     for (uint64_t t = 1; t <= SMALL_T; t++) {
-        group_begin("every set of damaged records in a table of %llu, fetched again from the number told", (unsigned long long)t);
+        test_begin("every set of damaged records in a table of %llu, fetched again from the number told", (unsigned long long)t);
         for (uint64_t version = FIRST_VERSION; version <= LAST_VERSION; version++)
             small_table(version, t);
-        group_end();
+        test_end();
     }
 }
 
@@ -190,12 +190,12 @@ static void larger_table(uint64_t t, uint64_t spent)
 
 static void larger_tables(void)
 {
-    group_begin("any set of damaged records in larger tables, fetched again from the number told");
-    for (uint64_t i = 0; i < LARGER_FILES; i = tried_behind(i, 8)) {
+    test_begin("any set of damaged records in larger tables, fetched again from the number told");
+    for (uint64_t i = 0; i < LARGER_FILES; i = tried_after(i, 8)) {
         uint64_t t = SMALL_T + 1 + chance_below(MOST_T - SMALL_T);
         larger_table(t, chance_below(t / 4 + 1));
     }
-    group_end();
+    test_end();
 }
 
 void test_bad_records(void)

@@ -22,7 +22,7 @@ enum kinds { UPDATES, DELETIONS, MIXED, KINDS_OF_BATCH };
 
 static void put_kinds(const struct file *file, struct call *batch, enum kinds kinds)
 {
-    struct buffer *items = &batch->lent[ITEMS];
+    struct buffer *items = &batch->args[ITEMS];
     if (kinds != MIXED)
         for (size_t at = 0; at < items->length; at += file_item_at(file, 1, 0))
             items->bytes[at + LEGBARO_ITEM_KIND] = kinds == UPDATES ? LEGBARO_ITEM_UPDATE : LEGBARO_ITEM_DELETE;
@@ -45,21 +45,21 @@ static void every_size(uint64_t B, uint64_t d, uint64_t r, enum kinds kinds)
 /* All of five rows are drawn, or some of 61. */
 static void every_size_and_kind(void)
 {
-    group_begin("batches of 1 to 64 items: updates, deletions, both");
-    for (size_t b = 0; b < BLOCK_SIZES; b = tried_behind(b, 8))
+    test_begin("batches of 1 to 64 items: updates, deletions, both");
+    for (size_t b = 0; b < BLOCK_SIZES; b = tried_after(b, 8))
         for (size_t kinds = 0; kinds < KINDS_OF_BATCH; kinds++)
             if ((b + kinds) % 2)
                 every_size(block_sizes[b], 5, 5, (enum kinds)kinds);
             else
                 every_size(block_sizes[b], 61, 1 + chance_below(61), (enum kinds)kinds);
-    group_end();
+    test_end();
 }
 
 /* Batches of the most items, and of about half, over so many rows that a token draws few of the blocks, some or all. */
 static void many_rows(void)
 {
     static const uint64_t rows[][2] = {{64, 64}, {512, 512}, {600, 512}, {4096, 64}, {5000, 460}, {100000, 512}, {100000, 1}};
-    group_begin("batches over many rows");
+    test_begin("batches over many rows");
     for (size_t i = 0; i < COUNT(rows); i++) {
         struct file file = file_set_up(any_version(), 64, rows[i][0], rows[i][1], 4, rows[i][0] + chance_below(rows[i][0]));
         for (size_t items = LEGBARO_MOST_ITEMS; items >= LEGBARO_MOST_ITEMS / 2 - 1; items -= 11)
@@ -68,7 +68,7 @@ static void many_rows(void)
         file_expect_book(&file);
         file_end(&file);
     }
-    group_end();
+    test_end();
 }
 
 /* ---- Which blocks ---- */
@@ -99,14 +99,14 @@ static void which_blocks(uint64_t d, uint64_t n)
 
 static void rows_and_ends(void)
 {
-    group_begin("batches on the blocks of one row, on neighbours, on the first block and the last");
+    test_begin("batches on the blocks of one row, on neighbours, on the first block and the last");
     for (uint64_t d = 1; d <= 7; d++)
         for (uint64_t n = 1; n <= 4 * d + 1; n += 1 + n / 3)
             which_blocks(d, n);
     which_blocks(1, 200);
     which_blocks(64, 64);
     which_blocks(5, 330);
-    group_end();
+    test_end();
 }
 
 /* A batch deletes blocks; then batches update and delete them again, and hand over zero bytes and the mark of a deleted block. */
@@ -127,11 +127,11 @@ static void deleted_again(uint64_t version, uint64_t B)
 
 static void blocks_deleted_again(void)
 {
-    group_begin("blocks deleted and updated again by batches");
+    test_begin("blocks deleted and updated again by batches");
     for (size_t b = 0; b < BLOCK_SIZES; b++)
         for (uint64_t version = FIRST_VERSION; version <= LAST_VERSION; version++)
             deleted_again(version, block_sizes[b]);
-    group_end();
+    test_end();
 }
 
 /* ---- Beside single changes ---- */
@@ -139,14 +139,14 @@ static void blocks_deleted_again(void)
 /* Item e of a batch as a single change on the file. */
 static struct call single(const struct file *file, const struct buffer *items, size_t e)
 {
-    struct item item = second_item(items->bytes, &file->book.numbers, e);
+    struct item item = reference_item(items->bytes, &file->book.numbers, e);
     struct call call = file_call(file, item.kind == LEGBARO_ITEM_UPDATE ? UPDATE : DELETE);
     call.m = item.m;
-    memcpy(call.lent[OLD].bytes, item.old_block, call.lent[OLD].length);
+    memcpy(call.args[OLD].bytes, item.old_block, call.args[OLD].length);
     if (item.mark)
-        call.lent[MARKS].bytes[0] = *item.mark;
+        call.args[MARKS].bytes[0] = *item.mark;
     if (call.kind == UPDATE)
-        memcpy(call.lent[NEW].bytes, item.new_block, call.lent[NEW].length);
+        memcpy(call.args[NEW].bytes, item.new_block, call.args[NEW].length);
     return call;
 }
 
@@ -155,18 +155,18 @@ static struct call single(const struct file *file, const struct buffer *items, s
 static void expect_alike(const struct file *one, const struct file *other)
 {
     uint8_t token[TOKEN_BYTES], other_token[TOKEN_BYTES];
-    struct card numbers = second_read_card(one->card.bytes), others = second_read_card(other->card.bytes);
+    struct card numbers = reference_read_card(one->card.bytes), others = reference_read_card(other->card.bytes);
     size_t spent = (numbers.next - 1) * LEGBARO_RECORD_BYTES;
     expect(memcmp(one->table.bytes, other->table.bytes, spent) == 0, "the same spent records");
     for (uint64_t i = numbers.next; i <= numbers.t; i++) {
-        int opened = second_token(one->master.bytes, &numbers, one->table.bytes, i, token) &&
-                     second_token(other->master.bytes, &others, other->table.bytes, i, other_token);
+        int opened = reference_token(one->master.bytes, &numbers, one->table.bytes, i, token) &&
+                     reference_token(other->master.bytes, &others, other->table.bytes, i, other_token);
         expect(opened && memcmp(token, other_token, sizeof token) == 0, "the same token %llu", (unsigned long long)i);
     }
     struct buffer card = buffer_copy(&one->card);
     numbers.ctr = others.ctr;
     numbers.last_issued = others.last_issued;
-    second_write_card(card.bytes, &numbers);
+    reference_write_card(card.bytes, &numbers);
     expect(buffer_same(&card, &other->card), "the same card but for the counter");
     buffer_free(&card);
 }
@@ -182,12 +182,12 @@ static void batch_and_singles(uint64_t B, uint64_t d, uint64_t spent, size_t ite
     }
     struct call batch = file_batch_call(&together, items);
     for (size_t e = 0; e < items; e++) {
-        struct call call = single(&singly, &batch.lent[ITEMS], e);
+        struct call call = single(&singly, &batch.args[ITEMS], e);
         expect(file_run(&singly, &call) == LEGBARO_OK, "accepted");
     }
     run_batch(&together, batch);
     expect(together.book.numbers.ctr == 1 && singly.book.numbers.ctr == items, "one step of the counter");
-    expect(totals_same(together.work, singly.work), "the totals of all single changes");
+    expect(totals_same(together.totals, singly.totals), "the totals of all single changes");
     expect_alike(&together, &singly);
     file_expect_book(&together);
     file_expect_book(&singly);
@@ -198,24 +198,24 @@ static void batch_and_singles(uint64_t B, uint64_t d, uint64_t spent, size_t ite
 
 static void batches_and_singles(void)
 {
-    group_begin("a batch and the same changes made singly leave the same tokens");
-    for (size_t items = 1; items <= LEGBARO_MOST_ITEMS; items = tried_behind(items, 6))
+    test_begin("a batch and the same changes made singly leave the same tokens");
+    for (size_t items = 1; items <= LEGBARO_MOST_ITEMS; items = tried_after(items, 6))
         batch_and_singles(block_sizes[items % BLOCK_SIZES], 1 + chance_below(90), chance_below(6), items);
-    group_end();
+    test_end();
 }
 
 /* A batch of one item, and that update or deletion, on copies of one file. */
 static void one_item(const struct file *file)
 {
-    struct call batch = file_batch_call(file, 1), alone = single(file, &batch.lent[ITEMS], 0);
+    struct call batch = file_batch_call(file, 1), alone = single(file, &batch.args[ITEMS], 0);
     call_alike(&batch, &alone);
 }
 
 static void batches_of_one(void)
 {
-    group_begin("a batch of one item writes what that change writes");
+    test_begin("a batch of one item writes what that change writes");
     file_each_size(one_item);
-    group_end();
+    test_end();
 }
 
 /* ---- What is not read ---- */
@@ -223,7 +223,7 @@ static void batches_of_one(void)
 /* A batch of deletions, and copies of it with other bytes where the new blocks are. */
 static void new_bytes_of_deletions(void)
 {
-    group_begin("a deletion's new bytes are not read");
+    test_begin("a deletion's new bytes are not read");
     for (size_t b = 0; b < BLOCK_SIZES; b++) {
         uint64_t B = block_sizes[b];
         struct file file = file_set_up(any_version(), B, 7, 7, 2, 40);
@@ -231,16 +231,16 @@ static void new_bytes_of_deletions(void)
         put_kinds(&file, &batch, DELETIONS);
         struct call other = call_copy(&batch);
         for (size_t e = 0; e < 9; e++)
-            chance_bytes(other.lent[ITEMS].bytes + file_item_at(&file, e, LEGBARO_ITEM_NEW(file.book.numbers.version, B)), B);
+            chance_bytes(other.args[ITEMS].bytes + file_item_at(&file, e, LEGBARO_ITEM_NEW(file.book.numbers.version, B)), B);
         call_expect(&batch, LEGBARO_OK, "accepted");
         call_expect(&other, LEGBARO_OK, "accepted");
-        expect(buffer_same(&batch.lent[CARD], &other.lent[CARD]), "the same card");
-        expect(buffer_same(&batch.lent[TABLE], &other.lent[TABLE]), "the same table");
+        expect(buffer_same(&batch.args[CARD], &other.args[CARD]), "the same card");
+        expect(buffer_same(&batch.args[TABLE], &other.args[TABLE]), "the same table");
         call_free(&batch);
         call_free(&other);
         file_end(&file);
     }
-    group_end();
+    test_end();
 }
 
 /* ---- Faults ---- */
@@ -286,13 +286,13 @@ static uint64_t code_of(const struct file *file, const struct buffer *items)
 /* Something wrong in one item or two, first, in the middle or last. */
 static void wrong_items(const struct file *file, size_t count)
 {
-    size_t places[] = {0, count / 2, count - 1};
-    for (unsigned one = 0; one < WRONGS * COUNT(places); one++)
-        for (unsigned other = one; other < WRONGS * COUNT(places); other++) {
+    size_t indices[] = {0, count / 2, count - 1};
+    for (unsigned one = 0; one < WRONGS * COUNT(indices); one++)
+        for (unsigned other = one; other < WRONGS * COUNT(indices); other++) {
             struct call batch = file_batch_call(file, count);
-            make_wrong(file, &batch.lent[ITEMS], places[one / WRONGS], (enum wrong)(one % WRONGS));
-            make_wrong(file, &batch.lent[ITEMS], places[other / WRONGS], (enum wrong)(other % WRONGS));
-            uint64_t code = code_of(file, &batch.lent[ITEMS]);
+            make_wrong(file, &batch.args[ITEMS], indices[one / WRONGS], (enum wrong)(one % WRONGS));
+            make_wrong(file, &batch.args[ITEMS], indices[other / WRONGS], (enum wrong)(other % WRONGS));
+            uint64_t code = code_of(file, &batch.args[ITEMS]);
             expect(code != LEGBARO_OK, "something is wrong");
             call_finish(&batch, code, "items that are wrong");
         }
@@ -301,14 +301,14 @@ static void wrong_items(const struct file *file, size_t count)
 static void faults_of_items(void)
 {
     static const size_t counts[] = {1, 2, 3, 7, LEGBARO_MOST_ITEMS};
-    group_begin("batches with one item wrong, or two");
+    test_begin("batches with one item wrong, or two");
     for (uint64_t version = FIRST_VERSION; version <= LAST_VERSION; version++) {
         struct file file = file_set_up(version, 4, 6, 4, 2, LEGBARO_MOST_ITEMS + 3);
         for (size_t i = 0; i < COUNT(counts); i++)
             wrong_items(&file, counts[i]);
         file_end(&file);
     }
-    group_end();
+    test_end();
 }
 
 /* Every length of a batch up to three items, on a file of blocks of five bytes. */
@@ -318,7 +318,7 @@ static void batch_lengths(uint64_t version)
     size_t size = file_item_at(&file, 1, 0);
     for (size_t length = 0; length <= 3 * size; length++) {
         struct call call = file_batch_call(&file, 3);
-        buffer_resize(&call.lent[ITEMS], length);
+        buffer_resize(&call.args[ITEMS], length);
         call_finish(&call, length > 0 && length % size == 0 ? LEGBARO_OK : LEGBARO_BAD_BATCH, "a batch's length");
     }
     file_end(&file);
@@ -326,16 +326,16 @@ static void batch_lengths(uint64_t version)
 
 static void every_batch_length(void)
 {
-    group_begin("every length of a batch up to three items");
+    test_begin("every length of a batch up to three items");
     for (uint64_t version = FIRST_VERSION; version <= LAST_VERSION; version++)
         batch_lengths(version);
-    group_end();
+    test_end();
 }
 
 /* With every token spent the card alone changes. */
 static void none_unused(void)
 {
-    group_begin("a batch with every token spent");
+    test_begin("a batch with every token spent");
     struct file file = file_set_up(any_version(), 28, 5, 5, 2, 20);
     file_audit(&file);
     file_audit(&file);
@@ -345,7 +345,7 @@ static void none_unused(void)
     file_expect_book(&file);
     buffer_free(&table);
     file_end(&file);
-    group_end();
+    test_end();
 }
 
 void test_batches(void)

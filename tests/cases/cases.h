@@ -2,7 +2,7 @@
 #ifndef CASES_H
 #define CASES_H
 
-/* The second implementation's permutation on small d: one to one, undone backward in as many turns, with paper 01's half widths. */
+/* The reference implementation's permutation on small d: one to one, undone backward in as many turns, with paper 01's half widths. */
 void test_permutation(void);
 
 /* The small input of each refusal of papers 01 and 02, and what is taken at the edge. */
@@ -15,7 +15,7 @@ void test_faults(void);
 void test_bad_records(void);
 
 /* Every single-bit change of what the calls read. */
-void test_bits(void);
+void test_bit_flips(void);
 
 /* Loads of many sizes, and set-ups with fewer, as many and more blocks than rows. */
 void test_loads(void);
@@ -42,7 +42,7 @@ void test_totals(void);
 void test_roles(void);
 
 /* What a host can read from a reseal: equal clear bytes whatever was changed, and sealed ones that look unrelated. */
-void test_silence(void);
+void test_indistinguishable(void);
 
 /* Why a reply is rejected: each cause alone and all sets of them, and no cause exactly where judge accepts. */
 void test_causes(void);
@@ -51,7 +51,7 @@ void test_causes(void);
 void test_pools(void);
 
 /* How many positions to draw of planned rows. */
-void test_plans(void);
+void test_positions(void);
 
 /* Planning sheets: beside exact fractions, beside all draws of small files, at every edge. */
 void test_sheets(void);
@@ -60,7 +60,7 @@ void test_sheets(void);
 void test_parity(void);
 
 /* Every date of a hundred years, the wait for a window, and draws in and outside windows. */
-void test_times(void);
+void test_schedule(void);
 
 /* Random lists of calls, turned-away ones included, on files of every small and odd size. */
 void test_lists(unsigned lists);
@@ -69,7 +69,7 @@ void test_lists(unsigned lists);
 void test_limits(void);
 
 /* The order in which set-up and proof come to their blocks. */
-void test_order(void);
+void test_read_order(void);
 
 /* That each call needs no more stack than the header says. */
 void test_stack(void);

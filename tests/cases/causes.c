@@ -54,9 +54,9 @@ static struct file drawn(uint64_t version)
 static uint64_t cause_of(const struct file *file, const struct buffer *reply)
 {
     struct call cause = {.kind = CAUSE, .role = any_permitted(CAUSE)};
-    cause.lent[MASTER] = buffer_copy(&file->master);
-    cause.lent[CARD] = buffer_copy(&file->card);
-    cause.lent[REPLY] = buffer_copy(reply);
+    cause.args[MASTER] = buffer_copy(&file->master);
+    cause.args[CARD] = buffer_copy(&file->card);
+    cause.args[REPLY] = buffer_copy(reply);
     struct call judge = call_copy(&cause);
     judge.kind = JUDGE;
     uint64_t number = call_compare(&cause), verdict = call_compare(&judge);
@@ -77,7 +77,7 @@ static void expect_cause(const struct file *file, const struct buffer *reply, ui
 static struct buffer honest(const struct file *file)
 {
     struct call judge = file_call(file, JUDGE);
-    struct buffer reply = buffer_copy(&judge.lent[REPLY]);
+    struct buffer reply = buffer_copy(&judge.args[REPLY]);
     call_free(&judge);
     return reply;
 }
@@ -89,7 +89,7 @@ static void every_bit(const struct file *file)
     struct buffer reply = honest(file);
     expect_cause(file, &reply, 0, "an honest reply");
     for (int p = 0; p < PARTS; p++)
-        for (size_t bit = 8 * parts[p].at; bit < 8 * (parts[p].at + parts[p].length); bit = tried_behind(bit, 5)) {
+        for (size_t bit = 8 * parts[p].at; bit < 8 * (parts[p].at + parts[p].length); bit = tried_after(bit, 5)) {
             buffer_flip(&reply, bit);
             expect_cause(file, &reply, parts[p].cause, "one bit flipped");
             buffer_flip(&reply, bit);
@@ -101,7 +101,7 @@ static void every_bit(const struct file *file)
 static void every_length(const struct file *file)
 {
     struct buffer sound = honest(file);
-    for (size_t length = 0; length <= 2 * LEGBARO_REPLY_BYTES; length = tried_behind(length, 5)) {
+    for (size_t length = 0; length <= 2 * LEGBARO_REPLY_BYTES; length = tried_after(length, 5)) {
         struct buffer reply = buffer_copy(&sound);
         buffer_resize(&reply, length);
         expect_cause(file, &reply, length == LEGBARO_REPLY_BYTES ? 0 : LEGBARO_CAUSE_SIZE, "another length");
@@ -127,7 +127,7 @@ static void every_set(const struct file *file)
 {
     static const size_t lengths[] = {LEGBARO_REPLY_BYTES, LEGBARO_REPLY_BYTES - 1, LEGBARO_REPLY_BYTES + 1};
     struct buffer sound = honest(file);
-    for (uint64_t set = 0; set < 1u << PARTS; set = tried_behind(set, 5))
+    for (uint64_t set = 0; set < 1u << PARTS; set = tried_after(set, 5))
         for (size_t l = 0; l < sizeof lengths / sizeof *lengths; l++) {
             struct buffer reply = buffer_copy(&sound);
             uint64_t first = alter(&reply, set);
@@ -144,9 +144,9 @@ static void every_set(const struct file *file)
 static struct buffer proved_with(const struct file *file, enum argument argument, size_t at)
 {
     struct call proof = file_call(file, PROVE);
-    proof.lent[argument].bytes[at] ^= 1;
+    proof.args[argument].bytes[at] ^= 1;
     call_expect(&proof, LEGBARO_OK, "accepted");
-    struct buffer reply = buffer_copy(&proof.lent[REPLY]);
+    struct buffer reply = buffer_copy(&proof.args[REPLY]);
     call_free(&proof);
     return reply;
 }
@@ -180,9 +180,9 @@ static void wrong_answers(uint64_t version)
     expect_cause(&file, &before, LEGBARO_CAUSE_NAME, "the reply to the message before");
     expect_cause(&file, &another, LEGBARO_CAUSE_NAME, "another file's reply");
     struct call proof = file_call(&file, PROVE);
-    memcpy(proof.lent[TABLE].bytes, older.bytes, older.length);
+    memcpy(proof.args[TABLE].bytes, older.bytes, older.length);
     call_expect(&proof, LEGBARO_OK, "accepted");
-    expect_cause(&file, &proof.lent[REPLY], LEGBARO_CAUSE_COUNTER, "a table from before the last change");
+    expect_cause(&file, &proof.args[REPLY], LEGBARO_CAUSE_COUNTER, "a table from before the last change");
     call_free(&proof);
     buffer_free(&before);
     buffer_free(&another);
@@ -195,7 +195,7 @@ static void wrong_answers(uint64_t version)
 static void random_replies(const struct file *file)
 {
     struct buffer sound = honest(file);
-    for (uint64_t i = 0; i < RANDOM_REPLIES; i = tried_behind(i, 5)) {
+    for (uint64_t i = 0; i < RANDOM_REPLIES; i = tried_after(i, 5)) {
         struct buffer reply = buffer_copy(&sound);
         if (chance_of(3))
             buffer_resize(&reply, chance_below(2 * LEGBARO_REPLY_BYTES));
@@ -209,7 +209,7 @@ static void random_replies(const struct file *file)
 
 static void causes(uint64_t version)
 {
-    group_begin("why a reply is rejected, version %llu", (unsigned long long)version);
+    test_begin("why a reply is rejected, version %llu", (unsigned long long)version);
     struct file file = drawn(version);
     every_bit(&file);
     every_length(&file);
@@ -218,7 +218,7 @@ static void causes(uint64_t version)
     wrong_answers(version);
     random_replies(&file);
     file_end(&file);
-    group_end();
+    test_end();
 }
 
 void test_causes(void)

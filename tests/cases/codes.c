@@ -37,9 +37,9 @@ static const unsigned codes[KINDS] = {
 
 void test_codes(void)
 {
-    group_begin("each call has returned each of its codes, and no other");
+    test_begin("each call has returned each of its codes, and no other");
     for (int kind = 0; kind < KINDS; kind++)
         for (unsigned code = LEGBARO_OK; code <= LAST_CODE; code++)
             expect((call_count(kind, code) > 0) == ((codes[unasked(kind)] & CODE(code)) != 0), "%s, code %u", call_name(kind), code);
-    group_end();
+    test_end();
 }

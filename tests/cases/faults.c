@@ -32,10 +32,10 @@ static struct file prepared(void)
 static void at_an_open_hour(struct call *call)
 {
     struct when when = {YEAR, MONTH, DAY, MINUTE};
-    buffer_free(&call->lent[PLAN]);
-    call->lent[PLAN] = plan_blank();
+    buffer_free(&call->args[PLAN]);
+    call->args[PLAN] = schedule_blank();
     for (unsigned weekday = 0; weekday < 7; weekday++)
-        plan_window(&call->lent[PLAN], weekday, 0, OPEN_UNTIL);
+        schedule_window(&call->args[PLAN], weekday, 0, OPEN_UNTIL);
     call_at(call, &when);
 }
 
@@ -95,22 +95,22 @@ static struct call faultless(enum kind kind)
     if (kind == DRAW)
         at_an_open_hour(&call);
     if (kind == PROVE)
-        buffer_resize(&call.lent[TABLE], 2 * LEGBARO_RECORD_BYTES);
+        buffer_resize(&call.args[TABLE], 2 * LEGBARO_RECORD_BYTES);
     return call;
 }
 
 /* Runs a call with faults of which the first is at this place; the version's may come before. */
-static void finish(struct call *call, enum place place, const char *what)
+static void finish(struct call *call, enum check check, const char *what)
 {
-    enum place start = fault_at_start(call->kind, version);
-    call_finish(call, fault_number(place < start ? place : start, call->kind), what);
+    enum check start = fault_at_start(call->kind, version);
+    call_finish(call, fault_number(check < start ? check : start, call->kind), what);
 }
 
 static void one_fault(enum kind kind, const struct fault *fault)
 {
     struct call call = faultless(kind);
     fault_make(&call, fault, version);
-    finish(&call, fault->place, "its only fault");
+    finish(&call, fault->check, "its only fault");
 }
 
 static void two_faults(enum kind kind, const struct fault *a, const struct fault *b)
@@ -123,24 +123,24 @@ static void two_faults(enum kind kind, const struct fault *a, const struct fault
 
 static void every_fault(enum kind kind)
 {
-    group_begin("every fault of %s alone, version %llu", call_name(kind), (unsigned long long)version);
+    test_begin("every fault of %s alone, version %llu", call_name(kind), (unsigned long long)version);
     struct call call = faultless(kind);
     finish(&call, NO_FAULT, "no fault");
     for (int a = 0; a < fault_count; a++)
         if (fault_has(&faults[a], kind, version))
             one_fault(kind, &faults[a]);
-    group_end();
+    test_end();
 }
 
 static void every_two_faults(enum kind kind)
 {
-    group_begin("every two faults of %s in their order, version %llu", call_name(kind), (unsigned long long)version);
+    test_begin("every two faults of %s in their order, version %llu", call_name(kind), (unsigned long long)version);
     for (int a = 0; a < fault_count; a++)
         for (int b = a + 1; b < fault_count; b++)
             if (fault_has(&faults[a], kind, version) && fault_has(&faults[b], kind, version) &&
                 faults[a].target != faults[b].target)
                 two_faults(kind, &faults[a], &faults[b]);
-    group_end();
+    test_end();
 }
 
 static void make_pool(void)
@@ -159,7 +159,7 @@ static void make_pool(void)
 
 static void version_faults(void)
 {
-    group_begin("files of version %llu for the faults", (unsigned long long)version);
+    test_begin("files of version %llu for the faults", (unsigned long long)version);
     changing = prepared();
     judging = prepared();
     settling = prepared();
@@ -167,7 +167,7 @@ static void version_faults(void)
     if (version == LEGBARO_TWO_STEPS)
         file_do(&settling, ASK_LOAD);
     make_pool();
-    group_end();
+    test_end();
     for (int kind = 0; kind < KINDS; kind++) {
         every_fault(kind);
         every_two_faults(kind);

@@ -14,7 +14,7 @@ enum { B = 28, T = 6, CLEAR_BYTES = 15, SEALED_BITS = 8 * (LEGBARO_RECORD_BYTES 
 /* The table that goes to the host after a change, in one step or asked; record i of a table. */
 static const struct buffer *sent(const struct call *change)
 {
-    return &change->lent[is_ask(change->kind) ? SECOND : TABLE];
+    return &change->args[is_ask(change->kind) ? SECOND : TABLE];
 }
 
 static const uint8_t *record(const struct buffer *table, uint64_t i)
@@ -30,16 +30,16 @@ static int same_bytes(const struct call *a, const struct call *b, uint64_t i, si
 /* Writes the token that an accepted change left in record i, which opens at the counter that the change took. */
 static void token_left(const struct call *change, uint64_t i, uint8_t *token)
 {
-    struct card after = second_read_card(change->lent[CARD].bytes);
+    struct card after = reference_read_card(change->args[CARD].bytes);
     after.ctr = after.last_issued;
-    expect(second_token(change->lent[MASTER].bytes, &after, sent(change)->bytes, i, token), "record %llu opens", (unsigned long long)i);
+    expect(reference_token(change->args[MASTER].bytes, &after, sent(change)->bytes, i, token), "record %llu opens", (unsigned long long)i);
 }
 
 /* "returned number, card and the first 15 bytes of every unused record come out equal": of two changes, on a card with these numbers, that
  * were both accepted and leave equally many blocks. */
 static void expect_silent(const struct card *c, const struct call *a, const struct call *b)
 {
-    expect(buffer_same(&a->lent[CARD], &b->lent[CARD]), "equal cards");
+    expect(buffer_same(&a->args[CARD], &b->args[CARD]), "equal cards");
     expect(sent(a)->length == sent(b)->length, "tables of one length");
     for (uint64_t i = c->next; i <= c->t; i++)
         expect(same_bytes(a, b, i, CLEAR_BYTES), "equal clear bytes of record %llu", (unsigned long long)i);
@@ -70,7 +70,7 @@ static void expect_spent(const struct file *file, const struct call *change)
 static struct call unaltered(const struct file *file, uint64_t m)
 {
     struct call call = file_block_call(file, UPDATE, m);
-    memcpy(call.lent[NEW].bytes, call.lent[OLD].bytes, B);
+    memcpy(call.args[NEW].bytes, call.args[OLD].bytes, B);
     return call;
 }
 
@@ -116,7 +116,7 @@ static void every_block(const struct file *file)
     call_expect(&nothing, LEGBARO_OK, "accepted");
     if (file->book.numbers.version == LEGBARO_TWO_STEPS)
         call_expect(&nothing_asked, LEGBARO_OK, "asked");
-    for (uint64_t m = 1; m <= n; m = tried_behind(m, 5)) {
+    for (uint64_t m = 1; m <= n; m = tried_after(m, 5)) {
         both_ways(file, &nothing, &nothing_asked, unaltered(file, m));
         both_ways(file, &nothing, &nothing_asked, file_block_call(file, UPDATE, m));
         both_ways(file, &nothing, &nothing_asked, file_block_call(file, DELETE, m));
@@ -141,15 +141,15 @@ static void with_spent(uint64_t version, uint64_t d, uint64_t r)
 
 static void covering_or_not(void)
 {
-    group_begin("updates, deletions and batches on one card show a host the same, covering or not");
+    test_begin("updates, deletions and batches on one card show a host the same, covering or not");
     for (uint64_t version = FIRST_VERSION; version <= LAST_VERSION; version++)
-        for (uint64_t d = 1; d <= 12; d = tried_behind(d, 5)) {
+        for (uint64_t d = 1; d <= 12; d = tried_after(d, 5)) {
             with_spent(version, d, 1 + chance_below(d));
             with_spent(version, d, d);
         }
     expect(altered.none && altered.some && altered.all, "changes that alter no token, some and all: %u, %u and %u", altered.none,
            altered.some, altered.all);
-    group_end();
+    test_end();
 }
 
 /* ---- Other tables ---- */
@@ -158,8 +158,8 @@ static void covering_or_not(void)
 static struct file other_file(const struct call *set_up)
 {
     struct call other = call_copy(set_up);
-    chance_bytes(other.lent[MASTER].bytes, other.lent[MASTER].length);
-    chance_bytes(other.lent[BLOCKS].bytes, other.lent[BLOCKS].length);
+    chance_bytes(other.args[MASTER].bytes, other.args[MASTER].length);
+    chance_bytes(other.args[BLOCKS].bytes, other.args[BLOCKS].length);
     struct file file = file_of(&other);
     call_free(&other);
     return file;
@@ -192,10 +192,10 @@ static void of_two_files(uint64_t version, uint64_t d)
 
 static void other_tables(void)
 {
-    group_begin("updates on equal cards show a host the same, whatever the master and the table");
-    for (uint64_t d = 1; d <= 12; d = tried_behind(d, 5))
+    test_begin("updates on equal cards show a host the same, whatever the master and the table");
+    for (uint64_t d = 1; d <= 12; d = tried_after(d, 5))
         of_two_files(any_version(), d);
-    group_end();
+    test_end();
 }
 
 /* ---- The sealed bytes ---- */
@@ -273,12 +273,12 @@ static void sealed_bytes(uint64_t version)
 
 static void unrelated(void)
 {
-    group_begin("no sealed bit is constant over %d reseals, covering or not", RESEALS);
+    test_begin("no sealed bit is constant over %d reseals, covering or not", RESEALS);
     sealed_bytes(any_version());
-    group_end();
+    test_end();
 }
 
-void test_silence(void)
+void test_indistinguishable(void)
 {
     covering_or_not();
     other_tables();

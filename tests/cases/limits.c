@@ -48,28 +48,28 @@ static void follow_book(struct file *file)
 
 static void most_rows(uint64_t version)
 {
-    group_begin("the most rows and positions, version %llu", (unsigned long long)version);
+    test_begin("the most rows and positions, version %llu", (unsigned long long)version);
     struct file file = file_set_up(version, 1, LEGBARO_MOST_ROWS, LEGBARO_MOST_POSITIONS, 2, LEGBARO_MOST_ROWS);
     round_of_calls(&file);
     file_end(&file);
-    group_end();
+    test_end();
 }
 
 static void most_block_bytes(uint64_t version)
 {
-    group_begin("the most bytes in a block, version %llu", (unsigned long long)version);
+    test_begin("the most bytes in a block, version %llu", (unsigned long long)version);
     struct file file = file_set_up(version, LEGBARO_MOST_BLOCK_BYTES, LEGBARO_MOST_POSITIONS + 1, LEGBARO_MOST_POSITIONS, 2,
                                    LEGBARO_MOST_POSITIONS);
     file_batch(&file, LEGBARO_MOST_ITEMS);
     round_of_calls(&file);
     file_end(&file);
-    group_end();
+    test_end();
 }
 
 /* All but the last token are spent by hand: their records are those of the set-up. */
 static void most_tokens(uint64_t version)
 {
-    group_begin("the most tokens, version %llu", (unsigned long long)version);
+    test_begin("the most tokens, version %llu", (unsigned long long)version);
     struct file file = file_set_up(version, 1, 2, 2, LEGBARO_MOST_TOKENS, 2);
     memcpy(file.book.spent, file.table.bytes, file.table.length);
     file_do(&file, UPDATE);
@@ -79,7 +79,7 @@ static void most_tokens(uint64_t version)
     round_of_calls(&file);
     refused(&file, DRAW, LEGBARO_NO_TOKEN_LEFT);
     file_end(&file);
-    group_end();
+    test_end();
 }
 
 /* Expects a load of so many blocks to be turned away with a code. */
@@ -120,7 +120,7 @@ static void full(struct file *file)
 static void most_blocks(uint64_t version)
 {
     enum { LEFT = 50 };
-    group_begin("the most blocks, filled by loads, version %llu", (unsigned long long)version);
+    test_begin("the most blocks, filled by loads, version %llu", (unsigned long long)version);
     struct file file = file_set_up(version, 1, LEGBARO_MOST_ROWS, LEGBARO_MOST_POSITIONS, 2, LEGBARO_MOST_BLOCKS - LEFT);
     load_refused(&file, LEFT + 1, LEGBARO_FILE_FULL);
     file_do(&file, APPEND);
@@ -129,37 +129,37 @@ static void most_blocks(uint64_t version)
     file_load(&file, 2);
     full(&file);
     file_end(&file);
-    group_end();
+    test_end();
 }
 
 /* Set up with the most blocks; with one more it is turned away. */
 static void most_blocks_at_once(uint64_t version)
 {
-    group_begin("the most blocks at set-up, version %llu", (unsigned long long)version);
+    test_begin("the most blocks at set-up, version %llu", (unsigned long long)version);
     struct file file = file_set_up(version, 1, LEGBARO_MOST_ROWS, LEGBARO_MOST_POSITIONS, 2, LEGBARO_MOST_BLOCKS);
     full(&file);
     file_end(&file);
     struct call call = file_set_up_call(version, 1, 2, 2, 1, LEGBARO_MOST_BLOCKS + 1);
     call_finish(&call, LEGBARO_OUT_OF_LIMITS, "one block above the most");
-    group_end();
+    test_end();
 }
 
 /* A file planned for the most rows, with one block, then all other rows in one load. */
 static void most_rows_loaded(uint64_t version)
 {
-    group_begin("the most rows, all but one filled by one load, version %llu", (unsigned long long)version);
+    test_begin("the most rows, all but one filled by one load, version %llu", (unsigned long long)version);
     struct file file = file_set_up(version, 1, LEGBARO_MOST_ROWS, LEGBARO_MOST_POSITIONS, 2, 1);
     round_of_calls(&file);
     file_load(&file, LEGBARO_MOST_ROWS - file.book.numbers.n);
     file_audit(&file);
     file_expect_book(&file);
     file_end(&file);
-    group_end();
+    test_end();
 }
 
 static void most_counter(uint64_t version)
 {
-    group_begin("the most counter, version %llu", (unsigned long long)version);
+    test_begin("the most counter, version %llu", (unsigned long long)version);
     struct file file = file_set_up(version, 28, 5, 3, 3, 4);
     file.book.numbers.ctr = file.book.numbers.last_issued = LEGBARO_MOST_COUNTER - 1;
     follow_book(&file);
@@ -171,7 +171,7 @@ static void most_counter(uint64_t version)
     file_audit(&file);
     file_expect_book(&file);
     file_end(&file);
-    group_end();
+    test_end();
 }
 
 void test_limits(void)

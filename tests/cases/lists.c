@@ -1,4 +1,4 @@
-/* Random lists of calls. Each list is run on the library, on the second implementation and on the plain book; and no record of a list is
+/* Random lists of calls. Each list is run on the library, on the reference implementation and on the plain book; and no record of a list is
  * sealed under a nonce that sealed another. */
 #include "cases.h"
 
@@ -72,14 +72,14 @@ static void disturb_hours(struct call *call)
     if (chance_of(3))
         *numbers[chance_below(COUNT(numbers))] = chance_of(2) ? 0 : 29 + chance_below(5000);
     if (chance_of(4))
-        plan_window(&call->lent[PLAN], (unsigned)chance_below(7), chance_below(1 << 16), chance_below(1 << 16));
+        schedule_window(&call->args[PLAN], (unsigned)chance_below(7), chance_below(1 << 16), chance_below(1 << 16));
     call_at(call, &when);
 }
 
 /* Any bytes behind a length field that tells how many: as many as a card has, or any number. */
 static struct buffer no_card(void)
 {
-    struct buffer b = buffer_blank(chance_of(2) ? second_card_bytes(any_version()) : 2 + chance_below(LONGEST_CARD));
+    struct buffer b = buffer_blank(chance_of(2) ? reference_card_bytes(any_version()) : 2 + chance_below(LONGEST_CARD));
     chance_bytes(b.bytes, b.length);
     buffer_put_number(&b, 0, 2, b.length - 2);
     return b;
@@ -88,15 +88,15 @@ static struct buffer no_card(void)
 /* A card with some of these: another version, no token drawn, the file's own id, a bit flipped behind the length field. */
 static struct buffer another_card(const struct file *file, const uint8_t *card)
 {
-    struct card numbers = second_read_card(card);
+    struct card numbers = reference_read_card(card);
     if (chance_of(3))
         numbers.version = any_version();
     if (chance_of(3))
         numbers.open = 0;
     if (chance_of(3))
         memcpy(numbers.id, file->book.numbers.id, sizeof numbers.id);
-    struct buffer other = buffer_blank(second_card_bytes(numbers.version));
-    second_write_card(other.bytes, &numbers);
+    struct buffer other = buffer_blank(reference_card_bytes(numbers.version));
+    reference_write_card(other.bytes, &numbers);
     if (chance_of(3))
         buffer_flip(&other, 8 * 2 + chance_below(8 * (other.length - 2)));
     return other;
@@ -105,10 +105,10 @@ static struct buffer another_card(const struct file *file, const uint8_t *card)
 /* Puts something in the place of one of the other cards of a pooled judging: "whatever else they hold" */
 static void disturb_pool(const struct file *file, struct call *call)
 {
-    size_t places[POOL_ROOM], at = places[chance_below(pool_cut(&call->lent[CARDS], places))];
-    if (at == call->place)
+    size_t offsets[POOL_ROOM], at = offsets[chance_below(pool_cut(&call->args[CARDS], offsets))];
+    if (at == call->card_offset)
         return;
-    struct buffer other = chance_of(3) ? no_card() : another_card(file, call->lent[CARDS].bytes + at);
+    struct buffer other = chance_of(3) ? no_card() : another_card(file, call->args[CARDS].bytes + at);
     pool_put_card(call, at, &other);
     buffer_free(&other);
 }
@@ -123,22 +123,22 @@ static uint64_t any_role(void)
 /* Something wrong in what a list may hold: anything lent but card and table, the master's bytes and a block's present bytes and mark. */
 static void disturb(const struct file *file, struct call *call)
 {
-    static const enum argument lent[] = {MASTER, SECOND, OLD, MARKS, NEW, BLOCKS, ITEMS, MESSAGE, PLAN, REPLY, TOTALS};
-    enum argument argument = lent[chance_below(COUNT(lent))];
+    static const enum argument args[] = {MASTER, SECOND, OLD, MARKS, NEW, BLOCKS, ITEMS, MESSAGE, PLAN, REPLY, TOTALS};
+    enum argument argument = args[chance_below(COUNT(args))];
     if (unasked(call->kind) == BATCH && chance_of(2))
-        disturb_item(file, &call->lent[ITEMS]);
+        disturb_item(file, &call->args[ITEMS]);
     else if (call->kind == DRAW && chance_of(2))
         disturb_hours(call);
-    else if (call->lent[MARKS].length == 1 && chance_of(4))
-        call->lent[MARKS].bytes[0] = (uint8_t)no_mark();
+    else if (call->args[MARKS].length == 1 && chance_of(4))
+        call->args[MARKS].bytes[0] = (uint8_t)no_mark();
     else if (chance_of(4))
         call->m = no_such_block(file);
     else if (call->kind == JUDGE_POOL && chance_of(2))
         disturb_pool(file, call);
     else if ((call->kind == JUDGE || call->kind == JUDGE_POOL) && chance_of(2))
-        flip_any_bit(&call->lent[REPLY]);
+        flip_any_bit(&call->args[REPLY]);
     else if (call_takes(call->kind, argument))
-        wrong_length(&call->lent[argument]);
+        wrong_length(&call->args[argument]);
 }
 
 /* Which call comes next, of a change whether or not it is asked: a drawn token is mostly judged, at times in a pool, what is pending is mostly
@@ -176,8 +176,8 @@ static struct call next_in_one_step(const struct file *file)
         return file_batch_call(file, 1 + chance_below(most_items(file)));
     struct call call = call_on(file, kind);
     if (kind == UPDATE && chance_of(5))
-        for (size_t i = 0; i < call.lent[NEW].length; i++)
-            call.lent[NEW].bytes[i] = call.lent[OLD].bytes[i];
+        for (size_t i = 0; i < call.args[NEW].length; i++)
+            call.args[NEW].bytes[i] = call.args[OLD].bytes[i];
     return call;
 }
 
@@ -244,9 +244,9 @@ static void aside(const struct file *file)
         if (!call_takes(call.kind, argument))
             continue;
         if (chance_of(3))
-            wrong_length(&call.lent[argument]);
+            wrong_length(&call.args[argument]);
         else
-            flip_any_bit(&call.lent[argument]);
+            flip_any_bit(&call.args[argument]);
     }
     call_compare(&call);
     call_free(&call);
@@ -279,12 +279,12 @@ void test_lists(unsigned lists)
 {
     for (size_t i = 0; i < COUNT(rows); i++) {
         unsigned share = lists / COUNT(rows);
-        group_begin("%u random lists of up to %d calls with d = %llu, on all versions", share, LONGEST, (unsigned long long)rows[i]);
+        test_begin("%u random lists of up to %d calls with d = %llu, on all versions", share, LONGEST, (unsigned long long)rows[i]);
         for (unsigned j = 0; j < share; j++) {
             uint64_t round = j / COUNT(block_bytes), t = 1 + round % MOST_TOKENS;
             uint64_t version = FIRST_VERSION + (j + round + round / MOST_TOKENS) % LAST_VERSION;
             list(version, block_bytes[j % COUNT(block_bytes)], rows[i], t);
         }
-        group_end();
+        test_end();
     }
 }

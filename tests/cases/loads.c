@@ -25,11 +25,11 @@ static void planned(uint64_t B, uint64_t d)
 static void planned_rows(void)
 {
     static const uint64_t rows[] = {1, 5, 17};
-    group_begin("set-ups with fewer, as many and more blocks than rows");
-    for (size_t b = 0; b < BLOCK_SIZES; b = tried_behind(b, 5))
+    test_begin("set-ups with fewer, as many and more blocks than rows");
+    for (size_t b = 0; b < BLOCK_SIZES; b = tried_after(b, 5))
         for (size_t i = 0; i < COUNT(rows); i++)
             planned(block_sizes[b], rows[i]);
-    group_end();
+    test_end();
 }
 
 /* Loads of 1 to 40 blocks, one after the other, into d rows that are all drawn. */
@@ -46,18 +46,18 @@ static void growing(uint64_t B, uint64_t d)
 static void growing_loads(void)
 {
     static const uint64_t rows[] = {5, 61};
-    group_begin("loads of 1 to 40 blocks");
-    for (size_t b = 0; b < BLOCK_SIZES; b = tried_behind(b, 6))
+    test_begin("loads of 1 to 40 blocks");
+    for (size_t b = 0; b < BLOCK_SIZES; b = tried_after(b, 6))
         for (size_t i = 0; i < COUNT(rows); i++)
             growing(block_sizes[b], rows[i]);
-    group_end();
+    test_end();
 }
 
 /* A file that grows by loads of these sizes, one after the other, or of some of them, and an audit. */
 static void grown_by(uint64_t B, uint64_t d, uint64_t r, const uint64_t *sizes, size_t count)
 {
     struct file file = file_set_up(any_version(), B, d, r, 2, 1 + chance_below(d));
-    for (size_t i = 0; i < count; i = tried_behind(i, 4))
+    for (size_t i = 0; i < count; i = tried_after(i, 4))
         file_load(&file, sizes[i]);
     file_audit(&file);
     file_expect_book(&file);
@@ -73,7 +73,7 @@ static void hundreds(uint64_t B, uint64_t d, uint64_t r)
 
 static void large_loads(void)
 {
-    group_begin("loads of up to some hundreds of blocks");
+    test_begin("loads of up to some hundreds of blocks");
     hundreds(64, 600, LEGBARO_MOST_POSITIONS);
     hundreds(28, 512, LEGBARO_MOST_POSITIONS);
     hundreds(27, 17, 17);
@@ -81,7 +81,7 @@ static void large_loads(void)
     hundreds(92, 4096, 64);
     hundreds(1, 100000, LEGBARO_MOST_POSITIONS);
     hundreds(LEGBARO_MOST_BLOCK_BYTES, 700, 100);
-    group_end();
+    test_end();
 }
 
 /* Loads below, at and above eight blocks for each position, from where on a load goes through the positions, and with their last walks alone,
@@ -94,7 +94,7 @@ static void through_positions(uint64_t B, uint64_t d, uint64_t r)
 
 static void loads_through_positions(void)
 {
-    group_begin("loads of eight blocks and more for each position");
+    test_begin("loads of eight blocks and more for each position");
     through_positions(64, 1, 1);
     through_positions(1, 2, 2);
     through_positions(29, 5, 3);
@@ -104,22 +104,22 @@ static void loads_through_positions(void)
     through_positions(28, 4096, 64);
     through_positions(83, 5000, 64);
     through_positions(LEGBARO_MOST_BLOCK_BYTES, 1100, 7);
-    group_end();
+    test_end();
 }
 
 /* A load of one block and an append of it, on copies of one file. */
 static void one_block(const struct file *file)
 {
     struct call append = file_call(file, APPEND), load = file_load_call(file, 1);
-    memcpy(load.lent[BLOCKS].bytes, append.lent[NEW].bytes, append.lent[NEW].length);
+    memcpy(load.args[BLOCKS].bytes, append.args[NEW].bytes, append.args[NEW].length);
     call_alike(&load, &append);
 }
 
 static void loads_of_one(void)
 {
-    group_begin("a load of one block writes what an append writes");
+    test_begin("a load of one block writes what an append writes");
     file_each_size(one_block);
-    group_end();
+    test_end();
 }
 
 /* Appends the blocks of a load one by one. */
@@ -128,7 +128,7 @@ static void append_singly(struct file *file, const struct buffer *blocks)
     uint64_t B = file->book.numbers.B;
     for (uint64_t at = 0; at < blocks->length; at += B) {
         struct call call = file_call(file, APPEND);
-        memcpy(call.lent[NEW].bytes, blocks->bytes + at, B);
+        memcpy(call.args[NEW].bytes, blocks->bytes + at, B);
         expect(file_run(file, &call) == LEGBARO_OK, "accepted");
     }
 }
@@ -138,7 +138,7 @@ static struct buffer drawn_reply(struct file *file)
 {
     file_do(file, DRAW);
     struct call judge = file_call(file, JUDGE);
-    struct buffer reply = buffer_copy(&judge.lent[REPLY]);
+    struct buffer reply = buffer_copy(&judge.args[REPLY]);
     expect(file_run(file, &judge) == LEGBARO_OK, "accepted");
     return reply;
 }
@@ -151,10 +151,10 @@ static void load_and_appends(uint64_t B, uint64_t d, uint64_t r, uint64_t n, uin
     struct call again = file_set_up_call(any_version(), B, d, r, 2, n);
     struct file loading = file_of(&again), appending = file_of(&again);
     struct call load = file_load_call(&loading, blocks);
-    append_singly(&appending, &load.lent[BLOCKS]);
+    append_singly(&appending, &load.args[BLOCKS]);
     expect(file_run(&loading, &load) == LEGBARO_OK, "accepted");
     expect(loading.book.numbers.ctr == 1 && appending.book.numbers.ctr == blocks, "one step of the counter");
-    expect(totals_same(loading.work, appending.work), "the totals of all appends");
+    expect(totals_same(loading.totals, appending.totals), "the totals of all appends");
     struct buffer one = drawn_reply(&loading), other = drawn_reply(&appending);
     expect(buffer_same(&loading.message, &appending.message), "the same message");
     expect(memcmp(one.bytes, other.bytes, BEFORE_RECORD) == 0, "the same digest");
@@ -169,26 +169,26 @@ static void load_and_appends(uint64_t B, uint64_t d, uint64_t r, uint64_t n, uin
 
 static void loads_and_appends(void)
 {
-    group_begin("a load and the same blocks appended one by one are audited alike");
-    for (size_t b = 0; b < BLOCK_SIZES; b = tried_behind(b, 5))
+    test_begin("a load and the same blocks appended one by one are audited alike");
+    for (size_t b = 0; b < BLOCK_SIZES; b = tried_after(b, 5))
         for (uint64_t blocks = 1; blocks <= 33; blocks += 4)
             load_and_appends(block_sizes[b], 7, 1 + chance_below(7), 1 + chance_below(10), blocks);
-    group_end();
+    test_end();
 }
 
 /* Every length of a load up to three blocks, on a file of blocks of five bytes. */
 static void load_lengths(void)
 {
     enum { B = 5 };
-    group_begin("every length of a load up to three blocks");
+    test_begin("every length of a load up to three blocks");
     struct file file = file_set_up(any_version(), B, 4, 4, 2, 3);
     for (size_t length = 0; length <= 3 * B; length++) {
         struct call call = file_load_call(&file, 3);
-        buffer_resize(&call.lent[BLOCKS], length);
+        buffer_resize(&call.args[BLOCKS], length);
         call_finish(&call, length == B || length == 2 * B || length == 3 * B ? LEGBARO_OK : LEGBARO_NOT_WHOLE_BLOCKS, "a load's length");
     }
     file_end(&file);
-    group_end();
+    test_end();
 }
 
 void test_loads(void)

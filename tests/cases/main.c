@@ -1,5 +1,5 @@
 /*
- * Compares the library with the second implementation and with the plain book. The last line is 'N passed, M failed', groups of tests.
+ * Compares the library with the reference implementation and with the plain book. The last line is 'N passed, M failed', groups of tests.
  *
  *   --seed N    another seed than the fixed one
  *   --lists N   how many random lists
@@ -49,7 +49,7 @@ int main(int count, char **words)
     }
     printf("seed %llu\n", (unsigned long long)options.seed);
     chance_start(options.seed);
-    second_start();
+    reference_start();
     if (options.exact) {
         buffers_exact();
         chance_spare();
@@ -58,7 +58,7 @@ int main(int count, char **words)
     test_refusals();
     test_faults();
     test_bad_records();
-    test_bits();
+    test_bit_flips();
     test_loads();
     test_batches();
     test_versions();
@@ -67,20 +67,20 @@ int main(int count, char **words)
     test_pending();
     test_totals();
     test_roles();
-    test_silence();
+    test_indistinguishable();
     test_causes();
     test_pools();
-    test_plans();
+    test_positions();
     test_sheets();
     test_parity();
-    test_times();
+    test_schedule();
     test_lists(options.lists);
     if (!options.exact) {
         test_limits();
-        test_order();
+        test_read_order();
         test_stack();
     }
     test_codes();
-    second_end();
-    return groups_passed() ? 0 : 1;
+    reference_end();
+    return tests_passed() ? 0 : 1;
 }

@@ -16,8 +16,8 @@ static const enum kind singles[] = {UPDATE, DELETE};
 static void with_length(const struct file *file, enum kind kind, size_t length, uint64_t number)
 {
     struct call call = file_call(file, kind);
-    buffer_resize(&call.lent[MARKS], length);
-    memset(call.lent[MARKS].bytes, LEGBARO_LIVE, length);
+    buffer_resize(&call.args[MARKS], length);
+    memset(call.args[MARKS].bytes, LEGBARO_LIVE, length);
     call_finish(&call, number, "marks of another length");
 }
 
@@ -38,7 +38,7 @@ static void lengths(uint64_t version)
 
 static void with_mark(struct call call, enum argument argument, size_t at, uint64_t mark)
 {
-    call.lent[argument].bytes[at] = (uint8_t)mark;
+    call.args[argument].bytes[at] = (uint8_t)mark;
     call_finish(&call, mark <= LEGBARO_DELETED ? LEGBARO_OK : LEGBARO_BAD_MARK, "any mark");
 }
 
@@ -61,12 +61,12 @@ static void values(uint64_t version)
 
 static void lengths_and_values(void)
 {
-    group_begin("marks of every length up to twice the blocks, and every byte as a mark");
+    test_begin("marks of every length up to twice the blocks, and every byte as a mark");
     for (uint64_t version = FIRST_VERSION; version <= LAST_VERSION; version++)
         lengths(version);
     for (uint64_t version = LEGBARO_WITH_MARKS; version <= LAST_VERSION; version++)
         values(version);
-    group_end();
+    test_end();
 }
 
 /* ---- Blocks of zeros ---- */
@@ -78,7 +78,7 @@ static void make_zeros(struct file *file, enum kind kind, uint64_t m)
 {
     struct call call = file_block_call(file, kind, m);
     if (kind == UPDATE)
-        memset(call.lent[NEW].bytes, 0, B);
+        memset(call.args[NEW].bytes, 0, B);
     expect(file_run(file, &call) == LEGBARO_OK, "accepted");
 }
 
@@ -97,11 +97,11 @@ static void dropped(uint64_t version, uint64_t m, uint8_t mark, uint64_t verdict
     struct file file = with_closed_day(version);
     file_do(&file, DRAW);
     struct call proof = file_call(&file, PROVE), judge = file_call(&file, JUDGE);
-    memset(proof.lent[BLOCKS].bytes + (m - 1) * B, 0, B);
-    if (proof.lent[MARKS].length)
-        proof.lent[MARKS].bytes[m - 1] = mark;
+    memset(proof.args[BLOCKS].bytes + (m - 1) * B, 0, B);
+    if (proof.args[MARKS].length)
+        proof.args[MARKS].bytes[m - 1] = mark;
     call_expect(&proof, LEGBARO_OK, "accepted");
-    memcpy(judge.lent[REPLY].bytes, proof.lent[REPLY].bytes, LEGBARO_REPLY_BYTES);
+    memcpy(judge.args[REPLY].bytes, proof.args[REPLY].bytes, LEGBARO_REPLY_BYTES);
     uint64_t number = file_run(&file, &judge);
     expect(number == verdict, "block %llu dropped, with mark %u, in version %llu: %llu, not %llu", (unsigned long long)m, mark,
            (unsigned long long)version, (unsigned long long)verdict, (unsigned long long)number);
@@ -112,7 +112,7 @@ static void dropped(uint64_t version, uint64_t m, uint8_t mark, uint64_t verdict
 /* Version 1 can't tell a closed day from a deleted block; versions 2 and 3 can, both ways. Other blocks are missed in each. */
 static void closed_days(void)
 {
-    group_begin("a host that drops a live block of zeros is caught in versions 2 and 3 and not in version 1");
+    test_begin("a host that drops a live block of zeros is caught in versions 2 and 3 and not in version 1");
     dropped(LEGBARO_WITHOUT_MARKS, CLOSED_DAY, LEGBARO_DELETED, LEGBARO_OK);
     dropped(LEGBARO_WITHOUT_MARKS, DELETED_BLOCK, LEGBARO_LIVE, LEGBARO_OK);
     for (uint64_t version = LEGBARO_WITH_MARKS; version <= LAST_VERSION; version++) {
@@ -125,7 +125,7 @@ static void closed_days(void)
         dropped(version, 1, LEGBARO_DELETED, LEGBARO_REJECTED);
         dropped(version, N, LEGBARO_LIVE, LEGBARO_REJECTED);
     }
-    group_end();
+    test_end();
 }
 
 /* The other old mark is taken as it is, and then the tokens no longer fit the file. */
@@ -133,7 +133,7 @@ static void wrong_old_mark(uint64_t version, enum kind kind, uint64_t m)
 {
     struct file file = with_closed_day(version);
     struct call call = file_block_call(&file, kind, m);
-    call.lent[MARKS].bytes[0] = (uint8_t)(LEGBARO_LIVE + LEGBARO_DELETED - *book_mark(&file.book, m));
+    call.args[MARKS].bytes[0] = (uint8_t)(LEGBARO_LIVE + LEGBARO_DELETED - *book_mark(&file.book, m));
     expect(file_run(&file, &call) == LEGBARO_OK, "accepted");
     file_do(&file, DRAW);
     call = file_call(&file, JUDGE);
@@ -143,14 +143,14 @@ static void wrong_old_mark(uint64_t version, enum kind kind, uint64_t m)
 
 static void wrong_old_marks(void)
 {
-    group_begin("a wrong old mark is taken, and found by the next audit");
+    test_begin("a wrong old mark is taken, and found by the next audit");
     for (uint64_t version = LEGBARO_WITH_MARKS; version <= LAST_VERSION; version++)
         for (size_t k = 0; k < sizeof singles / sizeof *singles; k++) {
             wrong_old_mark(version, singles[k], 1);
             wrong_old_mark(version, singles[k], CLOSED_DAY);
             wrong_old_mark(version, singles[k], DELETED_BLOCK);
         }
-    group_end();
+    test_end();
 }
 
 /* ---- Versions with marks beside version 1 ---- */
@@ -174,14 +174,14 @@ static void expect_twin(const struct file *file)
     const struct card *numbers = &file->book.numbers;
     uint8_t token[TOKEN_BYTES], twin_token[TOKEN_BYTES];
     struct call set_up = file_set_up_call(LEGBARO_WITHOUT_MARKS, numbers->B + 1, numbers->d, numbers->r, numbers->t, numbers->n);
-    memcpy(set_up.lent[MASTER].bytes, file->master.bytes, LEGBARO_MASTER_BYTES);
-    memcpy(set_up.lent[ID].bytes, numbers->id, LEGBARO_ID_BYTES);
-    buffer_free(&set_up.lent[BLOCKS]);
-    set_up.lent[BLOCKS] = marked_blocks(file);
+    memcpy(set_up.args[MASTER].bytes, file->master.bytes, LEGBARO_MASTER_BYTES);
+    memcpy(set_up.args[ID].bytes, numbers->id, LEGBARO_ID_BYTES);
+    buffer_free(&set_up.args[BLOCKS]);
+    set_up.args[BLOCKS] = marked_blocks(file);
     struct file twin = file_of(&set_up);
     for (uint64_t i = numbers->next; i <= numbers->t; i++)
-        expect(second_token(file->master.bytes, numbers, file->table.bytes, i, token) &&
-                   second_token(file->master.bytes, &twin.book.numbers, twin.table.bytes, i, twin_token) &&
+        expect(reference_token(file->master.bytes, numbers, file->table.bytes, i, token) &&
+                   reference_token(file->master.bytes, &twin.book.numbers, twin.table.bytes, i, twin_token) &&
                    memcmp(token, twin_token, sizeof token) == 0,
                "the token of version 1 over marks and blocks");
     file_end(&twin);
@@ -193,8 +193,8 @@ static void expect_twin(const struct file *file)
 static void twins(void)
 {
     static const enum kind changes[] = {UPDATE, DELETE, DELETE, APPEND, LOAD, BATCH};
-    group_begin("tokens of versions 2 and 3 are those of version 1 over blocks behind their marks");
-    for (uint64_t i = 0; i < TWINS; i = tried_behind(i, 5)) {
+    test_begin("tokens of versions 2 and 3 are those of version 1 over blocks behind their marks");
+    for (uint64_t i = 0; i < TWINS; i = tried_after(i, 5)) {
         uint64_t d = 1 + chance_below(20);
         uint64_t version = LEGBARO_WITH_MARKS + chance_below(LAST_VERSION + 1 - LEGBARO_WITH_MARKS);
         struct file file = file_set_up(version, 1 + chance_below(MOST_B), d, 1 + chance_below(d), T, 1 + chance_below(2 * d));
@@ -203,7 +203,7 @@ static void twins(void)
         expect_twin(&file);
         file_end(&file);
     }
-    group_end();
+    test_end();
 }
 
 void test_marks(void)

@@ -47,9 +47,9 @@ static void expect_encoded(const struct call *call)
     uint8_t *from[K], *parity[P];
     matrix_of(call->n, call->r, matrix);
     for (uint64_t q = 0; q < call->n; q++)
-        from[q] = call->lent[BLOCKS].bytes + q * call->B;
+        from[q] = call->args[BLOCKS].bytes + q * call->B;
     for (uint64_t x = 0; x < call->r; x++)
-        parity[x] = call->lent[OUT].bytes + x * call->B;
+        parity[x] = call->args[OUT].bytes + x * call->B;
     expect_products(call->B, call->n, call->r, matrix + call->n * call->n, from, parity, "parity");
 }
 
@@ -57,20 +57,20 @@ static void expect_encoded(const struct call *call)
 static void expect_rebuilt(const struct call *call)
 {
     static uint8_t matrix[(K + P) * K], left[K * K], inverted[K * K], weights[K * K];
-    const struct buffer *lost = &call->lent[LOST];
+    const struct buffer *lost = &call->args[LOST];
     uint64_t B = call->B, k = call->n, found = 0, count = 0;
     uint8_t *from[K], *data[K];
     matrix_of(k, call->r, matrix);
     for (uint64_t number = 0; number < k + call->r && found < k; number++)
         if (!memchr(lost->bytes, (int)number, lost->length)) {
             memcpy(left + found * k, matrix + number * k, k);
-            from[found++] = call->lent[BLOCKS].bytes + number * B;
+            from[found++] = call->args[BLOCKS].bytes + number * B;
         }
     expect(found == k && gf_invert_matrix(left, inverted, (int)k) == 0, "the matrix of the blocks left can be inverted");
     for (uint64_t q = 0; q < k; q++)
         if (memchr(lost->bytes, (int)q, lost->length)) {
             memcpy(weights + count * k, inverted + q * k, k);
-            data[count++] = call->lent[OUT].bytes + q * B;
+            data[count++] = call->args[OUT].bytes + q * B;
         }
     if (count > 0)
         expect_products(B, k, count, weights, from, data, "lost data");
@@ -78,19 +78,19 @@ static void expect_rebuilt(const struct call *call)
 
 /* ---- Groups ---- */
 
-/* Runs an encoding, and a rebuilding after the losses, beside the second implementation and ISA-L. All data come back, unless a survivor is
+/* Runs an encoding, and a rebuilding after the losses, beside the reference implementation and ISA-L. All data come back, unless a survivor is
  * damaged. */
 static void expect_group(struct call *encoding, const uint8_t *lost, size_t count, int damaged)
 {
     struct call rebuilding = parity_rebuilding(encoding, lost, count);
-    struct buffer *blocks = &rebuilding.lent[BLOCKS];
+    struct buffer *blocks = &rebuilding.args[BLOCKS];
     call_expect(encoding, LEGBARO_OK, "a group");
     expect_encoded(encoding);
     if (damaged)
         buffer_flip(blocks, chance_below(8 * blocks->length));
     call_expect(&rebuilding, LEGBARO_OK, "a group");
     expect_rebuilt(&rebuilding);
-    expect(damaged || buffer_same(&rebuilding.lent[OUT], &encoding->lent[BLOCKS]), "all data come back");
+    expect(damaged || buffer_same(&rebuilding.args[OUT], &encoding->args[BLOCKS]), "all data come back");
     call_free(&rebuilding);
 }
 
@@ -125,11 +125,11 @@ static void every_loss(uint64_t k, uint64_t p)
 
 static void small_groups(void)
 {
-    group_begin("every set of losses of small groups");
+    test_begin("every set of losses of small groups");
     for (uint64_t k = 1; k <= SMALL_K; k++)
         for (uint64_t p = 1; p <= SMALL_P; p++)
             every_loss(k, p);
-    group_end();
+    test_end();
 }
 
 /* Any `count` numbers of blocks below `blocks`, all different, in any order. */
@@ -151,8 +151,8 @@ static uint64_t any_to(uint64_t most)
 static void random_groups(void)
 {
     uint8_t lost[P];
-    group_begin("random groups, with sound survivors and with damaged ones");
-    for (uint64_t i = 0; i < TRIED; i = tried_behind(i, EXACTLY_TRIED)) {
+    test_begin("random groups, with sound survivors and with damaged ones");
+    for (uint64_t i = 0; i < TRIED; i = tried_after(i, EXACTLY_TRIED)) {
         uint64_t B = chance_of(50) ? any_to(LEGBARO_MOST_BLOCK_BYTES) : 1 + chance_below(150), k = any_to(K), p = any_to(P);
         struct call encoding = parity_encoding(B, k, p);
         size_t count = chance_of(2) ? p : chance_below(p + 1);
@@ -160,14 +160,14 @@ static void random_groups(void)
         expect_group(&encoding, lost, count, chance_of(3));
         call_free(&encoding);
     }
-    group_end();
+    test_end();
 }
 
 /* Every number of data and parity blocks, with as many data lost as can be. */
 static void every_size(void)
 {
-    group_begin("groups of every size");
-    for (uint64_t i = 0; i < K * P; i = tried_behind(i, EXACTLY_TRIED)) {
+    test_begin("groups of every size");
+    for (uint64_t i = 0; i < K * P; i = tried_after(i, EXACTLY_TRIED)) {
         uint64_t k = 1 + i / P, p = 1 + i % P;
         uint8_t lost[P];
         struct call encoding = parity_encoding(1 + chance_below(80), k, p);
@@ -175,36 +175,36 @@ static void every_size(void)
         expect_group(&encoding, lost, k < p ? k : p, 0);
         call_free(&encoding);
     }
-    group_end();
+    test_end();
 }
 
 /* What stands in the lost blocks is not read: with other bytes there the same data come back. */
 static void unread(void)
 {
-    group_begin("lost blocks are not read");
-    for (uint64_t i = 0; i < TRIED / 8; i = tried_behind(i, EXACTLY_TRIED)) {
+    test_begin("lost blocks are not read");
+    for (uint64_t i = 0; i < TRIED / 8; i = tried_after(i, EXACTLY_TRIED)) {
         uint8_t lost[P];
         uint64_t B = 1 + chance_below(40), k = any_to(K), p = any_to(P);
         struct call encoding = parity_encoding(B, k, p);
         any_losses(k + p, p, lost);
         struct call one = parity_rebuilding(&encoding, lost, p), other = call_copy(&one);
         for (size_t j = 0; j < p; j++)
-            chance_bytes(other.lent[BLOCKS].bytes + lost[j] * B, B);
+            chance_bytes(other.args[BLOCKS].bytes + lost[j] * B, B);
         call_expect(&one, LEGBARO_OK, "some bytes at the lost blocks");
         call_expect(&other, LEGBARO_OK, "other bytes there");
-        expect(buffer_same(&one.lent[OUT], &other.lent[OUT]), "the same data");
+        expect(buffer_same(&one.args[OUT], &other.args[OUT]), "the same data");
         call_free(&encoding);
         call_free(&one);
         call_free(&other);
     }
-    group_end();
+    test_end();
 }
 
 /* Any numbers, lengths and lists of the lost, inside the limits and outside: what is turned away leaves the buffers. */
 static void any_calls(void)
 {
-    group_begin("parity of any numbers");
-    for (uint64_t i = 0; i < TRIED; i = tried_behind(i, EXACTLY_TRIED)) {
+    test_begin("parity of any numbers");
+    for (uint64_t i = 0; i < TRIED; i = tried_after(i, EXACTLY_TRIED)) {
         uint8_t lost[P + 4];
         uint64_t B = 1 + chance_below(20), k = 1 + chance_below(6), p = 1 + chance_below(4);
         struct call encoding = parity_encoding(B, k, p);
@@ -216,14 +216,14 @@ static void any_calls(void)
         if (chance_of(3))
             *numbers[chance_below(3)] = chance_of(2) ? chance_below(60) : chance();
         if (chance_of(4))
-            buffer_resize(&call.lent[chance_of(2) ? BLOCKS : OUT], chance_below(2 * (k + p) * B));
+            buffer_resize(&call.args[chance_of(2) ? BLOCKS : OUT], chance_below(2 * (k + p) * B));
         if (count > 0 && call.kind == PARITY_REBUILD && chance_of(4))
-            call.lent[LOST].bytes[chance_below(count)] = (uint8_t)chance();
+            call.args[LOST].bytes[chance_below(count)] = (uint8_t)chance();
         call_compare(&call);
         call_free(&call);
         call_free(&encoding);
     }
-    group_end();
+    test_end();
 }
 
 /* ---- Refusals ---- */
@@ -232,8 +232,8 @@ static void any_calls(void)
 static void lost_blocks(const uint8_t *lost, size_t count, uint64_t code, const char *what)
 {
     struct call encoding = parity_encoding(SIZE_TRIED, 3, 2), call = parity_rebuilding(&encoding, (const uint8_t *)"", 0);
-    buffer_free(&call.lent[LOST]);
-    call.lent[LOST] = buffer_of(lost, count);
+    buffer_free(&call.args[LOST]);
+    call.args[LOST] = buffer_of(lost, count);
     call_finish(&call, code, what);
     call_free(&encoding);
 }
@@ -241,7 +241,7 @@ static void lost_blocks(const uint8_t *lost, size_t count, uint64_t code, const 
 /* Code 24's small inputs: no data block, 17 parity blocks, a lost block named twice, one not in the group. Code 25's: three lost, p 2. */
 static void broken_groups(void)
 {
-    group_begin("the small inputs of codes 24 and 25");
+    test_begin("the small inputs of codes 24 and 25");
     struct call call = parity_encoding(SIZE_TRIED, 0, 1);
     call_finish(&call, LEGBARO_BAD_GROUP, "no data block");
 
@@ -254,7 +254,7 @@ static void broken_groups(void)
     lost_blocks((const uint8_t[]){0, 1, 2}, 3, LEGBARO_TOO_MANY_LOST, "three lost, p 2");
     lost_blocks((const uint8_t[]){4, 0}, 2, LEGBARO_OK, "two lost, p 2");
     lost_blocks((const uint8_t *)"", 0, LEGBARO_OK, "none lost");
-    group_end();
+    test_end();
 }
 
 void test_parity(void)

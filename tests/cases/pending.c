@@ -21,14 +21,14 @@ static int is_size(size_t length)
 static void every_size(const struct file *file, enum kind kind)
 {
     struct call own = file_call(file, kind), again = call_copy(&own);
-    size_t size = own.lent[CARD].length;
+    size_t size = own.args[CARD].length;
     uint64_t number = call_compare(&again);
     for (size_t length = 0; length <= LONGEST_CARD; length++)
         for (int field = 0; field < (length < 2 ? 1 : 2); field++) {
             struct call call = call_copy(&own);
-            buffer_resize(&call.lent[CARD], length);
+            buffer_resize(&call.args[CARD], length);
             if (field)
-                buffer_put_number(&call.lent[CARD], 0, 2, length - 2);
+                buffer_put_number(&call.args[CARD], 0, 2, length - 2);
             call_finish(&call, length == size ? number : is_size(length) ? LEGBARO_WRONG_HEADER : LEGBARO_WRONG_LENGTH, "a card's size");
         }
     call_free(&own);
@@ -39,7 +39,7 @@ static void every_size(const struct file *file, enum kind kind)
 static void size_at_set_up(uint64_t version, uint64_t r, size_t length, uint64_t code)
 {
     struct call call = file_set_up_call(version, B, D, r, T, N);
-    buffer_resize(&call.lent[CARD], length);
+    buffer_resize(&call.args[CARD], length);
     call_finish(&call, code, "a card's size at set-up");
 }
 
@@ -55,7 +55,7 @@ static void sizes_at_set_up(uint64_t version)
 
 static void sizes(uint64_t version)
 {
-    group_begin("every size of a card up to %d bytes, version %llu", LONGEST_CARD, (unsigned long long)version);
+    test_begin("every size of a card up to %d bytes, version %llu", LONGEST_CARD, (unsigned long long)version);
     struct file changing = file_set_up(version, B, D, R, T, N), judging = file_set_up(version, B, D, R, T, N);
     struct file settling = file_set_up(version, B, D, R, T, N);
     file_do(&judging, DRAW);
@@ -67,7 +67,7 @@ static void sizes(uint64_t version)
     file_end(&changing);
     file_end(&judging);
     file_end(&settling);
-    group_end();
+    test_end();
 }
 
 /* ---- Limits ---- */
@@ -129,7 +129,7 @@ static uint64_t number_of(enum kind kind, const struct fields *f)
 static void with_fields(const struct file *file, enum kind kind, const struct fields *f)
 {
     struct call call = file_call(file, kind);
-    struct buffer *card = &call.lent[CARD];
+    struct buffer *card = &call.args[CARD];
     buffer_put_number(card, LEGBARO_CARD_COUNTER, 8, f->ctr);
     buffer_put_number(card, LEGBARO_CARD_BLOCKS, 4, f->n);
     buffer_put_number(card, LEGBARO_CARD_OPEN, 4, f->open);
@@ -143,18 +143,18 @@ static void with_fields(const struct file *file, enum kind kind, const struct fi
 static void limits(void)
 {
     static const enum kind kinds[] = {COMMIT, DROP, DRAW, JUDGE, UPDATE, ASK_UPDATE};
-    group_begin("last counter issued, pending counter and pending blocks at, below and above their ends");
+    test_begin("last counter issued, pending counter and pending blocks at, below and above their ends");
     struct file file = file_set_up(LEGBARO_TWO_STEPS, B, D, R, T, N);
     file_audit(&file);
     for (int changes = 0; changes < CTR; changes++)
         file_do(&file, UPDATE);
-    for (uint64_t number = 0; number < CASES; number = tried_behind(number, 7)) {
+    for (uint64_t number = 0; number < CASES; number = tried_after(number, 7)) {
         struct fields f = fields_of(number);
         for (size_t k = 0; k < COUNT(kinds); k++)
             with_fields(&file, kinds[k], &f);
     }
     file_end(&file);
-    group_end();
+    test_end();
 }
 
 void test_pending(void)

@@ -1,4 +1,4 @@
-/* The second implementation's permutation, held to what paper 01 says of it. */
+/* The reference implementation's permutation, held to what paper 01 says of it. */
 #include "cases.h"
 
 #include "support/chance.h"
@@ -15,7 +15,7 @@ static void half_widths(void)
         unsigned h;
     } marked[] = {{1, 1}, {4, 1}, {5, 2}, {16, 2}, {17, 3}, {LEGBARO_MOST_ROWS, 10}};
     for (size_t i = 0; i < sizeof marked / sizeof *marked; i++)
-        expect(second_half_width(marked[i].d) == marked[i].h, "half width %u for d = %llu", marked[i].h,
+        expect(reference_half_width(marked[i].d) == marked[i].h, "half width %u for d = %llu", marked[i].h,
                (unsigned long long)marked[i].d);
 }
 
@@ -23,9 +23,9 @@ static void half_widths(void)
  * never cross outside the rows", so that all together take no more turns than there are numbers below 4^h. */
 static void one_to_one(const uint8_t *key, uint64_t d)
 {
-    uint64_t seen = 0, turns = 0, numbers = UINT64_C(1) << 2 * second_half_width(d);
+    uint64_t seen = 0, turns = 0, numbers = UINT64_C(1) << 2 * reference_half_width(d);
     for (uint64_t x = 0; x < d; x++) {
-        struct walk walk = second_permuted(key, d, x), back = second_permuted_back(key, d, walk.end);
+        struct walk walk = reference_permuted(key, d, x), back = reference_permuted_back(key, d, walk.end);
         expect(walk.end < d && !(seen >> walk.end & 1), "P one to one for d = %llu", (unsigned long long)d);
         expect(back.end == x && back.turns == walk.turns, "P undone for d = %llu, in as many turns", (unsigned long long)d);
         expect(walk.turns >= 1 && walk.turns <= numbers - d + 1, "the turns of a walk for d = %llu", (unsigned long long)d);
@@ -38,12 +38,12 @@ static void one_to_one(const uint8_t *key, uint64_t d)
 void test_permutation(void)
 {
     uint8_t key[LEGBARO_MASTER_BYTES];
-    group_begin("the second implementation's permutation");
+    test_begin("the reference implementation's permutation");
     half_widths();
     for (int keys = 0; keys < KEYS; keys++) {
         chance_bytes(key, sizeof key);
         for (uint64_t d = 1; d <= MOST_D; d++)
             one_to_one(key, d);
     }
-    group_end();
+    test_end();
 }

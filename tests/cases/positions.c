@@ -67,10 +67,10 @@ static void many(void)
     }
 }
 
-void test_plans(void)
+void test_positions(void)
 {
-    group_begin("positions of planned rows");
+    test_begin("positions of planned rows");
     edges();
     many();
-    group_end();
+    test_end();
 }

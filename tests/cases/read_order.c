@@ -1,5 +1,5 @@
 /*
- * See tests.h. The blocks lie on pages that the program may not touch, a block to a page. At the first touch of a page the system tells of it: the
+ * See cases.h. The blocks lie on pages that the program may not touch, a block to a page. At the first touch of a page the system tells of it: the
  * page is noted, and may be read from then on. So the order in which a call comes to its blocks is seen from outside.
  */
 #define _DEFAULT_SOURCE
@@ -39,7 +39,7 @@ static void on_touch(int signal_number, siginfo_t *what, void *context)
 static uint64_t run_on_pages(struct call *call)
 {
     struct sigaction noted = {.sa_sigaction = on_touch, .sa_flags = SA_SIGINFO}, before;
-    struct buffer own = call->lent[BLOCKS];
+    struct buffer own = call->args[BLOCKS];
     page_count = own.length / PAGE;
     touches = 0;
     pages = mmap(NULL, own.length, PROT_READ | PROT_WRITE, MAP_PRIVATE | MAP_ANONYMOUS, -1, 0);
@@ -47,9 +47,9 @@ static uint64_t run_on_pages(struct call *call)
     memcpy(pages, own.bytes, own.length);
     sigemptyset(&noted.sa_mask);
     expect(mprotect(pages, own.length, PROT_NONE) == 0 && sigaction(SIGSEGV, &noted, &before) == 0, "pages that are shut");
-    call->lent[BLOCKS].bytes = pages;
+    call->args[BLOCKS].bytes = pages;
     uint64_t number = call_library(call);
-    call->lent[BLOCKS] = own;
+    call->args[BLOCKS] = own;
     sigaction(SIGSEGV, &before, NULL);
     munmap(pages, own.length);
     return number;
@@ -60,7 +60,7 @@ static void expect_order(const char *name, const uint8_t *key, uint64_t d, uint6
 {
     size_t seen = 0;
     for (uint64_t j = 1; j <= r; j++) {
-        uint64_t row = second_permuted(key, d, j - 1).end;
+        uint64_t row = reference_permuted(key, d, j - 1).end;
         for (uint64_t column = (n + d - row - 1) / d; column > 0; column--) {
             uint64_t block = (column - 1) * d + row;
             expect(seen < touches && touched[seen] == block, "%s: touch %zu, at position %llu, to be of block %llu", name, seen + 1,
@@ -90,9 +90,9 @@ static void order(uint64_t version, uint64_t d, uint64_t r, uint64_t n)
     file_end(&file);
 }
 
-void test_order(void)
+void test_read_order(void)
 {
-    group_begin("blocks are read position by position, from the newest column back to the oldest");
+    test_begin("blocks are read position by position, from the newest column back to the oldest");
     for (uint64_t version = FIRST_VERSION; version <= LAST_VERSION; version++) {
         order(version, 1, 1, 1);
         order(version, 1, 1, 40);
@@ -105,5 +105,5 @@ void test_order(void)
         for (int i = 0; i < 20; i++)
             order(version, 9, 1, 9);
     }
-    group_end();
+    test_end();
 }

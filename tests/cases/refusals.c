@@ -43,7 +43,7 @@ static void broken_loads(const struct file *file)
     static const size_t lengths[] = {0, B - 1, B + 1};
     for (size_t i = 0; i < sizeof lengths / sizeof *lengths; i++) {
         struct call call = file_load_call(file, 1);
-        buffer_resize(&call.lent[BLOCKS], lengths[i]);
+        buffer_resize(&call.args[BLOCKS], lengths[i]);
         call_finish(&call, LEGBARO_NOT_WHOLE_BLOCKS, "no whole blocks");
     }
 }
@@ -52,7 +52,7 @@ static void broken_loads(const struct file *file)
 static void broken_item(const struct file *file, size_t offset, unsigned width, uint64_t value, uint64_t code, const char *what)
 {
     struct call call = file_batch_call(file, 1);
-    buffer_put_number(&call.lent[ITEMS], file_item_at(file, 0, offset), width, value);
+    buffer_put_number(&call.args[ITEMS], file_item_at(file, 0, offset), width, value);
     call_finish(&call, code, what);
 }
 
@@ -69,7 +69,7 @@ static void broken_batches(const struct file *file)
     size_t size = file_item_at(file, 1, 0), lengths[] = {0, size - 1, size + 1};
     for (size_t i = 0; i < sizeof lengths / sizeof *lengths; i++) {
         struct call call = file_batch_call(file, 1);
-        buffer_resize(&call.lent[ITEMS], lengths[i]);
+        buffer_resize(&call.args[ITEMS], lengths[i]);
         call_finish(&call, LEGBARO_BAD_BATCH, "no whole items");
     }
     broken_item(file, LEGBARO_ITEM_KIND, 1, 0, LEGBARO_BAD_BATCH, "an item of kind 0");
@@ -100,7 +100,7 @@ static void broken_marks(const struct file *file)
         return;
     for (size_t i = 0; i < sizeof kinds / sizeof *kinds; i++) {
         struct call call = file_call(file, kinds[i]);
-        call.lent[MARKS].bytes[0] = 2;
+        call.args[MARKS].bytes[0] = 2;
         call_finish(&call, LEGBARO_BAD_MARK, "mark 2");
     }
     broken_item(file, LEGBARO_ITEM_MARK(B), 1, 2, LEGBARO_BAD_MARK, "an item with mark 2");
@@ -109,8 +109,8 @@ static void broken_marks(const struct file *file)
 static void broken_proof_mark(const struct file *file)
 {
     struct call call = file_call(file, PROVE);
-    if (call.lent[MARKS].length) {
-        call.lent[MARKS].bytes[D - 1] = 2;
+    if (call.args[MARKS].length) {
+        call.args[MARKS].bytes[D - 1] = 2;
         call_expect(&call, LEGBARO_BAD_MARK, "mark 2");
     }
     call_free(&call);
@@ -146,12 +146,12 @@ static void broken_hours(const struct file *file)
     call_finish(&call, LEGBARO_BAD_TIME, "minute 1,440");
 
     call = file_call(file, DRAW);
-    buffer_free(&call.lent[PLAN]);
-    call.lent[PLAN] = plan_blank();
+    buffer_free(&call.args[PLAN]);
+    call.args[PLAN] = schedule_blank();
     call_finish(&call, LEGBARO_OUTSIDE_WINDOWS, "a plan without a window");
 
     call = file_call(file, DRAW);
-    plan_window(&call.lent[PLAN], 6, LEGBARO_DAY_MINUTES, 0);
+    schedule_window(&call.args[PLAN], 6, LEGBARO_DAY_MINUTES, 0);
     call_finish(&call, LEGBARO_OUT_OF_LIMITS, "a plan with minute 1,440");
 }
 
@@ -182,7 +182,7 @@ static void counter_at_most(const struct file *file)
 {
     struct call call = file_call(file, UPDATE);
     int two_steps = file->book.numbers.version == LEGBARO_TWO_STEPS;
-    buffer_put_number(&call.lent[CARD], two_steps ? LEGBARO_CARD_LAST_ISSUED : LEGBARO_CARD_COUNTER, 8, LEGBARO_MOST_COUNTER);
+    buffer_put_number(&call.args[CARD], two_steps ? LEGBARO_CARD_LAST_ISSUED : LEGBARO_CARD_COUNTER, 8, LEGBARO_MOST_COUNTER);
     call_finish(&call, LEGBARO_COUNTER_AT_MOST, "ctr, or last issued, 4,294,967,295");
 }
 
@@ -216,19 +216,19 @@ static void broken_pools(const struct file *const *two)
     call_finish(&call, LEGBARO_BAD_POOL, "a card twice");
 
     call = pool_call(two, 2);
-    buffer_put_number(&call.lent[CARDS], size, 2, 42);
+    buffer_put_number(&call.args[CARDS], size, 2, 42);
     call_finish(&call, LEGBARO_WRONG_HEADER, "a card of length 42");
 
     call = pool_call(two, 2);
-    buffer_resize(&call.lent[CARDS], 2 * size - 1);
+    buffer_resize(&call.args[CARDS], 2 * size - 1);
     call_finish(&call, LEGBARO_WRONG_LENGTH, "the last card a byte short");
 
     call = pool_call(two, 2);
-    buffer_resize(&call.lent[CARDS], 2 * size + 1);
+    buffer_resize(&call.args[CARDS], 2 * size + 1);
     call_finish(&call, LEGBARO_WRONG_LENGTH, "a byte behind the cards");
 
     call = pool_call(two, 2);
-    buffer_put_number(&call.lent[CARDS], size + LEGBARO_CARD_OPEN, 4, 0);
+    buffer_put_number(&call.args[CARDS], size + LEGBARO_CARD_OPEN, 4, 0);
     call_finish(&call, LEGBARO_NONE_OPEN, "a card with no token drawn");
 
     call = pool_call(two, 2);
@@ -249,15 +249,15 @@ static void broken_poolings(const struct file *const *two)
     call_finish(&call, LEGBARO_BAD_POOL, "one reply");
 
     call = pooling_call(two, 2);
-    buffer_resize(&call.lent[REPLIES], 2 * LEGBARO_REPLY_BYTES - 1);
+    buffer_resize(&call.args[REPLIES], 2 * LEGBARO_REPLY_BYTES - 1);
     call_finish(&call, LEGBARO_WRONG_LENGTH, "no whole replies");
 
     call = pooling_call(two, 2);
-    call.lent[REPLIES].bytes[LEGBARO_REPLY_BYTES + 2] = 0;
+    call.args[REPLIES].bytes[LEGBARO_REPLY_BYTES + 2] = 0;
     call_finish(&call, LEGBARO_WRONG_HEADER, "a reply of version 0");
 
     call = pooling_call(two, 2);
-    buffer_resize(&call.lent[POOLED], LEGBARO_POOLED_BYTES(2) - 1);
+    buffer_resize(&call.args[POOLED], LEGBARO_POOLED_BYTES(2) - 1);
     call_finish(&call, LEGBARO_WRONG_LENGTH, "a pooled reply a byte short");
 
     call = pooling_call(two, 2);
@@ -280,15 +280,15 @@ static void two_files(uint64_t version)
 static void small_calls(struct file *file)
 {
     struct call call = file_call(file, DRAW);
-    buffer_resize(&call.lent[CARD], call.lent[CARD].length - 1);
+    buffer_resize(&call.args[CARD], call.args[CARD].length - 1);
     call_finish(&call, LEGBARO_WRONG_LENGTH, "card of 42 or 62 bytes");
 
     call = file_call(file, UPDATE);
-    buffer_resize(&call.lent[TOTALS], LEGBARO_TOTALS_BYTES - 1);
+    buffer_resize(&call.args[TOTALS], LEGBARO_TOTALS_BYTES - 1);
     call_finish(&call, LEGBARO_WRONG_LENGTH, "totals of 15 bytes");
 
     call = file_call(file, DRAW);
-    call.lent[CARD].bytes[LEGBARO_CARD_VERSION] = 0;
+    call.args[CARD].bytes[LEGBARO_CARD_VERSION] = 0;
     call_finish(&call, LEGBARO_WRONG_HEADER, "card, version 0");
 
     call = file_call(file, UPDATE);
@@ -296,15 +296,15 @@ static void small_calls(struct file *file)
     call_finish(&call, LEGBARO_NO_SUCH_BLOCK, "update block 0");
 
     call = file_call(file, APPEND);
-    buffer_put_number(&call.lent[CARD], LEGBARO_CARD_BLOCKS, 4, LEGBARO_MOST_BLOCKS);
+    buffer_put_number(&call.args[CARD], LEGBARO_CARD_BLOCKS, 4, LEGBARO_MOST_BLOCKS);
     call_finish(&call, LEGBARO_FILE_FULL, "n 16,777,216");
 
     call = file_load_call(file, 2);
-    buffer_put_number(&call.lent[CARD], LEGBARO_CARD_BLOCKS, 4, LEGBARO_MOST_BLOCKS - 1);
+    buffer_put_number(&call.args[CARD], LEGBARO_CARD_BLOCKS, 4, LEGBARO_MOST_BLOCKS - 1);
     call_finish(&call, LEGBARO_FILE_FULL, "n 16,777,215 and two blocks");
 
     call = file_call(file, UPDATE);
-    buffer_flip(&call.lent[TABLE], 8 * (2 * LEGBARO_RECORD_BYTES - 1));
+    buffer_flip(&call.args[TABLE], 8 * (2 * LEGBARO_RECORD_BYTES - 1));
     call_finish(&call, LEGBARO_BAD_RECORD + 256 * 2, "bit flipped in record 2's tag");
 
     without_right(file);
@@ -343,7 +343,7 @@ static void taken(uint64_t version)
     file_do(&file, DRAW);
     for (size_t longer = 0; longer <= 2; longer++) {
         call = file_call(&file, PROVE);
-        buffer_resize(&call.lent[TABLE], LEGBARO_RECORD_BYTES + longer);
+        buffer_resize(&call.args[TABLE], LEGBARO_RECORD_BYTES + longer);
         call_finish(&call, LEGBARO_OK, "a table of 63 bytes or more for token 1");
     }
     file_do(&file, JUDGE);
@@ -352,7 +352,7 @@ static void taken(uint64_t version)
 
 static void small_inputs(uint64_t version)
 {
-    group_begin("each refusal's small input, version %llu", (unsigned long long)version);
+    test_begin("each refusal's small input, version %llu", (unsigned long long)version);
     struct file file = file_set_up(version, B, D, R, T, D);
     small_calls(&file);
     file_end(&file);
@@ -364,7 +364,7 @@ static void small_inputs(uint64_t version)
     last_token_drawn(version);
     two_steps(version);
     taken(version);
-    group_end();
+    test_end();
 }
 
 void test_refusals(void)

@@ -59,7 +59,7 @@ static void expect_buffers(const struct call *call, const struct call *other, co
 {
     for (int argument = 0; argument < ARGUMENTS; argument++)
         if (call_takes(call->kind, argument))
-            expect(buffer_same(&call->lent[argument], &other->lent[argument]), "%s, role %llu: buffers %s", call_name(call->kind),
+            expect(buffer_same(&call->args[argument], &other->args[argument]), "%s, role %llu: buffers %s", call_name(call->kind),
                    (unsigned long long)call->role, what);
 }
 
@@ -90,7 +90,7 @@ static void by_every_role(struct call *lent)
  * reply is "judged by roles 2 and 3" */
 static void rights(void)
 {
-    group_begin("the rights of each role");
+    test_begin("the rights of each role");
     for (enum kind kind = UPDATE; kind <= JUDGE_POOL; kind++) {
         int adding = unasked(kind) == APPEND || unasked(kind) == LOAD;
         int auditing = kind == DRAW || kind == JUDGE || kind == CAUSE || kind == JUDGE_POOL;
@@ -99,19 +99,19 @@ static void rights(void)
             expect(call_permits(kind, roles[i]) == may, "%s by role %llu", call_name(kind), (unsigned long long)roles[i]);
         }
     }
-    group_end();
+    test_end();
 }
 
 static void every_call(uint64_t version)
 {
-    group_begin("every call by every role, version %llu", (unsigned long long)version);
+    test_begin("every call by every role, version %llu", (unsigned long long)version);
     begin(version);
     for (enum kind kind = UPDATE; kind <= JUDGE_POOL; kind++) {
         struct call call = faultless(kind);
         by_every_role(&call);
     }
     end();
-    group_end();
+    test_end();
 }
 
 /* ---- Whatever else is lent ---- */
@@ -120,7 +120,7 @@ static void every_call(uint64_t version)
 static void disturb(struct call *call)
 {
     enum argument argument = (enum argument)chance_below(ARGUMENTS);
-    struct buffer *b = &call->lent[argument];
+    struct buffer *b = &call->args[argument];
     if (!call_takes(call->kind, argument))
         return;
     if (chance_of(2))
@@ -131,16 +131,16 @@ static void disturb(struct call *call)
 
 static void disturbed_calls(uint64_t version)
 {
-    group_begin("calls with something wrong in them by every role, version %llu", (unsigned long long)version);
+    test_begin("calls with something wrong in them by every role, version %llu", (unsigned long long)version);
     begin(version);
-    for (uint64_t i = 0; i < ROUNDS; i = tried_behind(i, 5)) {
+    for (uint64_t i = 0; i < ROUNDS; i = tried_after(i, 5)) {
         struct call call = faultless((enum kind)(UPDATE + chance_below(JUDGE_POOL + 1 - UPDATE)));
         for (uint64_t times = 1 + chance_below(3); times; times--)
             disturb(&call);
         by_every_role(&call);
     }
     end();
-    group_end();
+    test_end();
 }
 
 /* A call of any numbers, and buffers of any bytes and any length. */
@@ -150,8 +150,8 @@ static struct call any_call(enum kind kind)
         .kind = kind, .m = chance(), .year = chance(), .month = chance(), .day = chance(), .minute = chance_below(LEGBARO_DAY_MINUTES)};
     for (int argument = 0; argument < ARGUMENTS; argument++)
         if (call_takes(kind, argument)) {
-            call.lent[argument] = buffer_blank(chance_below(LONGEST));
-            chance_bytes(call.lent[argument].bytes, call.lent[argument].length);
+            call.args[argument] = buffer_blank(chance_below(LONGEST));
+            chance_bytes(call.args[argument].bytes, call.args[argument].length);
         }
     return call;
 }
@@ -159,12 +159,12 @@ static struct call any_call(enum kind kind)
 /* "A caller without the right gets an answer that depends on role and call only." */
 static void any_calls(void)
 {
-    group_begin("calls of any bytes and numbers by every role");
-    for (uint64_t i = 0; i < ROUNDS; i = tried_behind(i, 5)) {
+    test_begin("calls of any bytes and numbers by every role");
+    for (uint64_t i = 0; i < ROUNDS; i = tried_after(i, 5)) {
         struct call call = any_call((enum kind)(UPDATE + chance_below(JUDGE_POOL + 1 - UPDATE)));
         by_every_role(&call);
     }
-    group_end();
+    test_end();
 }
 
 void test_roles(void)

@@ -16,11 +16,11 @@ enum { FIRST_YEAR = 2000, LAST_YEAR = 2099, WEEKDAYS = 7, DAY = LEGBARO_DAY_MINU
 enum { RANDOM_PLANS = 3000, DRAWS = 2000 };
 enum { MONDAY, TUESDAY, WEDNESDAY, THURSDAY, FRIDAY, SATURDAY, SUNDAY };
 
-/* What a wait returns, compared with the second implementation. */
+/* What a wait returns, compared with the reference implementation. */
 static uint64_t wait_of(const struct buffer *plan, const struct when *when)
 {
     struct call call = {.kind = WAIT};
-    call.lent[PLAN] = buffer_copy(plan);
+    call.args[PLAN] = buffer_copy(plan);
     call_at(&call, when);
     uint64_t number = call_compare(&call);
     call_free(&call);
@@ -61,23 +61,23 @@ static void date(const struct buffer *mondays, uint64_t year, uint64_t month, ui
 
 static void every_date(void)
 {
-    group_begin("every date from 2000 to 2099 and around, as the C library's calendar has it");
-    struct buffer mondays = plan_blank();
-    plan_window(&mondays, MONDAY, 0, 1);
+    test_begin("every date from 2000 to 2099 and around, as the C library's calendar has it");
+    struct buffer mondays = schedule_blank();
+    schedule_window(&mondays, MONDAY, 0, 1);
     for (uint64_t year = FIRST_YEAR - 1; year <= LAST_YEAR + 1; year++)
         for (uint64_t month = 0; month <= 13; month++)
-            for (uint64_t day = 0; day <= 32; day = tried_behind(day, 6))
+            for (uint64_t day = 0; day <= 32; day = tried_after(day, 6))
                 date(&mondays, year, month, day);
     buffer_free(&mondays);
-    group_end();
+    test_end();
 }
 
 /* Numbers of more than 32 bits are no date; minutes are those of a day. */
 static void large_numbers(void)
 {
     static const uint64_t large[] = {UINT64_C(1) << 32, UINT64_C(3) << 32, UINT64_C(1) << 40, UINT64_C(1) << 63};
-    group_begin("dates and minutes of large numbers");
-    struct buffer plan = any_plan();
+    test_begin("dates and minutes of large numbers");
+    struct buffer plan = any_schedule();
     for (size_t i = 0; i < sizeof large / sizeof *large; i++)
         for (int field = 0; field < 4; field++) {
             struct when when = {2026, 1, 1, 0};
@@ -90,7 +90,7 @@ static void large_numbers(void)
         expect((wait_of(&plan, &when) == LEGBARO_BAD_TIME) == (minute >= DAY), "minute %llu", (unsigned long long)minute);
     }
     buffer_free(&plan);
-    group_end();
+    test_end();
 }
 
 /* ---- Windows ---- */
@@ -118,25 +118,25 @@ static uint64_t scanned(const struct buffer *plan, const struct when *when)
 
 static void random_plans(void)
 {
-    group_begin("the wait on random plans, minute after minute");
-    for (uint64_t i = 0; i < RANDOM_PLANS; i = tried_behind(i, 5)) {
+    test_begin("the wait on random plans, minute after minute");
+    for (uint64_t i = 0; i < RANDOM_PLANS; i = tried_after(i, 5)) {
         struct when when = any_time();
-        struct buffer plan = chance_of(4) ? plan_blank() : any_plan();
+        struct buffer plan = chance_of(4) ? schedule_blank() : any_schedule();
         for (uint64_t windows = chance_below(3); windows; windows--)
-            plan_window(&plan, (unsigned)chance_below(WEEKDAYS), chance_below(DAY), chance_below(DAY));
+            schedule_window(&plan, (unsigned)chance_below(WEEKDAYS), chance_below(DAY), chance_below(DAY));
         expect_wait(&plan, &when, scanned(&plan, &when));
         buffer_free(&plan);
     }
-    group_end();
+    test_end();
 }
 
 /* A week with one window, looked at from minutes of all its days. */
 static void one_window(unsigned weekday, uint64_t start, uint64_t end)
 {
-    struct buffer plan = plan_blank();
+    struct buffer plan = schedule_blank();
     uint64_t first = weekday * DAY + start, minutes = (end + DAY - start) % DAY;
-    plan_window(&plan, weekday, start, end);
-    for (uint64_t at = 0; at < WEEK; at = tried_behind(at + (at % 97 == 0 ? 0 : 30), 150)) {
+    schedule_window(&plan, weekday, start, end);
+    for (uint64_t at = 0; at < WEEK; at = tried_after(at + (at % 97 == 0 ? 0 : 30), 150)) {
         struct when when = {2026, 11, 16 + at / DAY, at % DAY}; /* 16 November 2026 is a Monday */
         uint64_t since = (at + WEEK - first) % WEEK;
         expect_wait(&plan, &when, minutes == 0 ? WEEK : since < minutes ? 0 : WEEK - since);
@@ -149,31 +149,31 @@ static void windows(void)
 {
     static const uint64_t ends[][2] = {{600, 700},   {0, DAY - 1},       {1200, 0}, {1200, 1}, {1200, 300}, {1, 0},
                                        {DAY - 1, 0}, {DAY - 1, DAY - 2}, {0, 1},    {0, 0},    {700, 700},  {DAY - 1, DAY - 1}};
-    group_begin("one window in the week: within a day, up to midnight and past it, Sunday into Monday");
+    test_begin("one window in the week: within a day, up to midnight and past it, Sunday into Monday");
     for (size_t i = 0; i < sizeof ends / sizeof *ends; i++) {
         one_window(MONDAY, ends[i][0], ends[i][1]);
         one_window(THURSDAY, ends[i][0], ends[i][1]);
         one_window(SUNDAY, ends[i][0], ends[i][1]);
     }
-    group_end();
+    test_end();
 }
 
 /* 29 February 2000 was a Tuesday; 31 December 2099 is a Thursday, and a wait goes on behind it. */
 static void ends_of_the_calendar(void)
 {
     struct when leap_day = {2000, 2, 29, 1430}, first_day = {2000, 1, 1, 0}, last_day = {2099, 12, 31, 1439};
-    group_begin("29 February 2000, 1 January 2000, 31 December 2099");
-    struct buffer plan = plan_blank();
-    plan_window(&plan, WEDNESDAY, 5, 10);
+    test_begin("29 February 2000, 1 January 2000, 31 December 2099");
+    struct buffer plan = schedule_blank();
+    schedule_window(&plan, WEDNESDAY, 5, 10);
     expect_wait(&plan, &leap_day, 15);
     expect_wait(&plan, &first_day, 4 * DAY + 5);
     expect_wait(&plan, &last_day, 5 * DAY + 6);
-    plan_window(&plan, FRIDAY, 0, 1);
+    schedule_window(&plan, FRIDAY, 0, 1);
     expect_wait(&plan, &last_day, 1);
-    plan_window(&plan, THURSDAY, 1439, 0);
+    schedule_window(&plan, THURSDAY, 1439, 0);
     expect_wait(&plan, &last_day, 0);
     buffer_free(&plan);
-    group_end();
+    test_end();
 }
 
 /* ---- Draws ---- */
@@ -181,20 +181,20 @@ static void ends_of_the_calendar(void)
 /* A draw is accepted exactly where the wait is 0. */
 static void draws(void)
 {
-    group_begin("draws in windows and outside them");
+    test_begin("draws in windows and outside them");
     struct file file = file_set_up(LAST_VERSION, 28, 5, 5, 2, 5);
     for (int i = 0; i < DRAWS; i++) {
         struct when when = any_time();
         struct call draw = file_call(&file, DRAW);
         call_at(&draw, &when);
-        int allowed = wait_of(&draw.lent[PLAN], &when) == LEGBARO_OK;
+        int allowed = wait_of(&draw.args[PLAN], &when) == LEGBARO_OK;
         call_finish(&draw, allowed ? LEGBARO_OK : LEGBARO_OUTSIDE_WINDOWS, "at any time");
     }
     file_end(&file);
-    group_end();
+    test_end();
 }
 
-void test_times(void)
+void test_schedule(void)
 {
     every_date();
     large_numbers();

@@ -23,14 +23,14 @@ struct sheet {
 
 static uint64_t number_at(const struct call *call, size_t at)
 {
-    return buffer_number(&call->lent[OUT], at, 8);
+    return buffer_number(&call->args[OUT], at, 8);
 }
 
 /* Runs the call and frees it; answers the code, and what was written. */
 static uint64_t ask(struct call call, struct sheet *sheet)
 {
     uint64_t code = call_compare(&call);
-    if (call.lent[OUT].length == LEGBARO_SHEET_BYTES) {
+    if (call.args[OUT].length == LEGBARO_SHEET_BYTES) {
         struct sheet written = {number_at(&call, LEGBARO_SHEET_TABLE), number_at(&call, LEGBARO_SHEET_TURNS),
                                 number_at(&call, LEGBARO_SHEET_LEAST), number_at(&call, LEGBARO_SHEET_MOST),
                                 number_at(&call, LEGBARO_SHEET_ESCAPE)};
@@ -139,13 +139,13 @@ static void expect_sheet(uint64_t B, uint64_t d, uint64_t r, uint64_t t, uint64_
 /* All sheets of files with few rows and blocks. */
 static void small_files(void)
 {
-    group_begin("sheets of small files, beside all rows and draws");
+    test_begin("sheets of small files, beside all rows and draws");
     for (uint64_t d = 1; d <= FEW_ROWS; d++)
         for (uint64_t r = 1; r <= d; r++)
             for (uint64_t m = 0; m <= d; m++)
                 for (uint64_t n = 1; n <= 3 * d; n += m ? d : 1)
                     expect_sheet(1, d, r, 1, n, m);
-    group_end();
+    test_end();
 }
 
 /* The most of every number with the least of the others, and all at their most; m, r and d - m side by side; n below, at and above d. */
@@ -155,7 +155,7 @@ static void edges(void)
     enum { N = LEGBARO_MOST_BLOCKS };
     static const uint64_t rows[] = {1, 2, 3, 4, 5, 16, 17, 511, 512, 513, 720, 4096, 4097, D - 1, D};
     static const uint64_t blocks[] = {1, 719, 720, 721, 1440, N - 1, N};
-    group_begin("sheets at the edges");
+    test_begin("sheets at the edges");
     expect_sheet(1, 1, 1, 1, 1, 0);
     expect_sheet(B, D, R, T, N, D);
     expect_sheet(B, D, R, T, N, 0);
@@ -170,7 +170,7 @@ static void edges(void)
                 expect_sheet(B, d, r, 1, blocks[k], 1);
         }
     }
-    group_end();
+    test_end();
 }
 
 /* A number from 1 to most, near either end as often as between. */
@@ -183,7 +183,7 @@ static uint64_t any_to(uint64_t most)
 /* Random sheets: one half of files whose rows are counted, and d - m near r in a third. */
 static void random_sheets(void)
 {
-    group_begin("random sheets, beside exact fractions");
+    test_begin("random sheets, beside exact fractions");
     for (int i = 0; i < TRIED; i++) {
         int small = chance_of(2);
         uint64_t d = any_to(small ? COUNTED_ROWS : LEGBARO_MOST_ROWS);
@@ -194,7 +194,7 @@ static void random_sheets(void)
             n = n < d ? d : n - n % d;
         expect_sheet(any_to(LEGBARO_MOST_BLOCK_BYTES), d, r, any_to(LEGBARO_MOST_TOKENS), n, m);
     }
-    group_end();
+    test_end();
 }
 
 /* Any numbers at all, and any length, inside the limits and outside: what is turned away leaves the buffer. */
@@ -202,7 +202,7 @@ static void any_calls(void)
 {
     static const uint64_t most[] = {LEGBARO_MOST_BLOCK_BYTES, LEGBARO_MOST_ROWS,   LEGBARO_MOST_POSITIONS,
                                     LEGBARO_MOST_TOKENS,      LEGBARO_MOST_BLOCKS, LEGBARO_MOST_ROWS};
-    group_begin("sheets of any numbers");
+    test_begin("sheets of any numbers");
     for (int i = 0; i < TRIED; i++) {
         uint64_t x[6];
         struct sheet sheet;
@@ -210,10 +210,10 @@ static void any_calls(void)
             x[k] = chance_of(8) ? (chance_of(2) ? 0 : most[k] + 1) : chance_of(40) ? chance() : any_to(most[k]);
         struct call call = call_sheet(x[0], x[1], x[2], x[3], x[4], x[5]);
         if (chance_of(8))
-            buffer_resize(&call.lent[OUT], chance_below(2 * LEGBARO_SHEET_BYTES));
+            buffer_resize(&call.args[OUT], chance_below(2 * LEGBARO_SHEET_BYTES));
         ask(call, &sheet);
     }
-    group_end();
+    test_end();
 }
 
 void test_sheets(void)

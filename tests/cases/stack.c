@@ -1,4 +1,4 @@
-/* See tests.h. A stack is painted, a call runs on it in a thread of its own, and where the paint is left the call has not been. */
+/* See cases.h. A stack is painted, a call runs on it in a thread of its own, and where the paint is left the call has not been. */
 #define _XOPEN_SOURCE 700
 #include "cases.h"
 
@@ -97,10 +97,10 @@ static void stack_of_parity(void)
 
 void test_stack(void)
 {
-    group_begin("each call needs less than 64 KB of stack");
+    test_begin("each call needs less than 64 KB of stack");
     for (uint64_t version = FIRST_VERSION; version <= LAST_VERSION; version++)
         stack_of_calls(version);
     stack_of_pools();
     stack_of_parity();
-    group_end();
+    test_end();
 }

@@ -1,4 +1,4 @@
-/* Totals: what calls count beside what other calls count, and the bounds that a planner may quote. That they are the second implementation's
+/* Totals: what calls count beside what other calls count, and the bounds that a planner may quote. That they are the reference implementation's
  * in every call, and that refusals leave them, is looked at wherever calls are compared. */
 #include "cases.h"
 
@@ -79,13 +79,13 @@ static void all_proofs(struct file *file, struct found *found)
                (unsigned long long)turns.most, (unsigned long long)one.turns);
         expect(between(hashes.least, one.hashes, hashes.most), "from %llu to %llu hashes, not %llu", (unsigned long long)hashes.least,
                (unsigned long long)hashes.most, (unsigned long long)one.hashes);
-        second_add_totals(&sum, one);
+        reference_add_totals(&sum, one);
         widen(&found->turns, one.turns);
         widen(&found->hashes, one.hashes);
         call_free(&proof);
         file_do(file, JUDGE);
     }
-    expect_totals(sum, file->work, "all proofs");
+    expect_totals(sum, file->totals, "all proofs");
 }
 
 static struct found proofs_of(uint64_t version, uint64_t d, uint64_t r, uint64_t t, uint64_t n)
@@ -99,15 +99,15 @@ static struct found proofs_of(uint64_t version, uint64_t d, uint64_t r, uint64_t
 
 static void set_up_and_proofs(void)
 {
-    group_begin("the proofs of all tokens take the turns and hashes that set-up took, each within its bounds");
-    for (uint64_t d = 1; d <= MOST_D; d = tried_behind(d, 5))
+    test_begin("the proofs of all tokens take the turns and hashes that set-up took, each within its bounds");
+    for (uint64_t d = 1; d <= MOST_D; d = tried_after(d, 5))
         for (uint64_t n = 1; n <= 3 * d; n += 1 + chance_below(d))
             proofs_of(any_version(), d, 1 + chance_below(d), T, n);
-    for (uint64_t d = 1; d <= MOST_D; d = tried_behind(d, 5))
+    for (uint64_t d = 1; d <= MOST_D; d = tried_after(d, 5))
         proofs_of(any_version(), d, d, T, 1 + chance_below(2 * d));
     proofs_of(any_version(), 300, 300, T, 500);
     proofs_of(any_version(), 1000, LEGBARO_MOST_POSITIONS, T, 1500);
-    group_end();
+    test_end();
 }
 
 /* Bounds that could be lower are none. With few rows some of so many tokens take the most turns, and with one position, or all but one, the
@@ -116,7 +116,7 @@ static void bounds_met(void)
 {
     enum { TOKENS = 150 };
     static const uint64_t shapes[][3] = {{1, 1, 1}, {2, 1, 3}, {2, 2, 2}, {3, 1, 4}, {3, 2, 5}, {3, 3, 1}, {5, 1, 7}, {5, 4, 9}};
-    group_begin("some tokens of many take the most turns, the least hashes and the most");
+    test_begin("some tokens of many take the most turns, the least hashes and the most");
     for (size_t i = 0; i < COUNT(shapes); i++) {
         struct card c = {.d = shapes[i][0], .r = shapes[i][1], .n = shapes[i][2]};
         struct range turns = turns_of(&c), hashes = hashes_of(&c);
@@ -126,7 +126,7 @@ static void bounds_met(void)
         expect(found.hashes.least == hashes.least && found.hashes.most == hashes.most, "the least and the most hashes for d = %llu",
                (unsigned long long)c.d);
     }
-    group_end();
+    test_end();
 }
 
 /* ---- Changes beside set-up ---- */
@@ -207,9 +207,9 @@ static void rows_changed(uint64_t version, uint64_t d, uint64_t r)
     for (enum way way = UPDATES; way < WAYS; way++) {
         uint64_t hashes = way == APPENDS || way == ONE_LOAD ? 1 : 2;
         struct file file = file_of(&set_up);
-        file.work = (struct totals){0, 0};
+        file.totals = (struct totals){0, 0};
         every_row(&file, way);
-        expect_totals(file.work, (struct totals){all.turns, hashes * r * T}, "every row changed once");
+        expect_totals(file.totals, (struct totals){all.turns, hashes * r * T}, "every row changed once");
         file_end(&file);
     }
     call_free(&set_up);
@@ -217,13 +217,13 @@ static void rows_changed(uint64_t version, uint64_t d, uint64_t r)
 
 static void changes_and_set_up(void)
 {
-    group_begin("changes of every row take the turns of a set-up over all rows, and hashes for r rows of each token");
-    for (uint64_t d = 1; d <= MOST_D; d = tried_behind(d, 8)) {
+    test_begin("changes of every row take the turns of a set-up over all rows, and hashes for r rows of each token");
+    for (uint64_t d = 1; d <= MOST_D; d = tried_after(d, 8)) {
         rows_changed(any_version(), d, 1 + chance_below(d));
         rows_changed(any_version(), d, d);
     }
     rows_changed(any_version(), 150, 70);
-    group_end();
+    test_end();
 }
 
 /* ---- Single changes ---- */
@@ -267,14 +267,14 @@ static void every_change(uint64_t version, uint64_t d, uint64_t r)
 static void changes_in_bounds(void)
 {
     static const uint64_t powers[] = {4, 16, 64, 256, 1024};
-    group_begin("the turns and hashes of changes within their bounds, with every number of tokens spent");
-    for (uint64_t d = 1; d <= MOST_D; d = tried_behind(d, 5)) {
+    test_begin("the turns and hashes of changes within their bounds, with every number of tokens spent");
+    for (uint64_t d = 1; d <= MOST_D; d = tried_after(d, 5)) {
         every_change(any_version(), d, 1 + chance_below(d));
         every_change(any_version(), d, d);
     }
     for (size_t i = 0; i < COUNT(powers); i++)
         every_change(any_version(), powers[i], 1 + chance_below(powers[i] < LEGBARO_MOST_POSITIONS ? powers[i] : LEGBARO_MOST_POSITIONS));
-    group_end();
+    test_end();
 }
 
 /* "altered or not": an update to the bytes that are there, a deletion of a deleted block. */
@@ -282,16 +282,16 @@ static void unaltered(uint64_t d, uint64_t r)
 {
     struct file file = file_set_up(any_version(), B, d, r, T, d);
     struct call update = file_call(&file, UPDATE), same = call_copy(&update);
-    memcpy(same.lent[NEW].bytes, same.lent[OLD].bytes, B);
+    memcpy(same.args[NEW].bytes, same.args[OLD].bytes, B);
     call_expect(&update, LEGBARO_OK, "accepted");
     call_expect(&same, LEGBARO_OK, "accepted");
     expect_totals(call_totals(&same), call_totals(&update), "an update that alters nothing");
-    file.work = (struct totals){0, 0};
+    file.totals = (struct totals){0, 0};
     change_block(&file, DELETE, update.m);
-    expect_totals(file.work, call_totals(&update), "a deletion");
-    file.work = (struct totals){0, 0};
+    expect_totals(file.totals, call_totals(&update), "a deletion");
+    file.totals = (struct totals){0, 0};
     change_block(&file, DELETE, update.m);
-    expect_totals(file.work, call_totals(&update), "a deletion of a deleted block");
+    expect_totals(file.totals, call_totals(&update), "a deletion of a deleted block");
     call_free(&update);
     call_free(&same);
     file_end(&file);
@@ -299,10 +299,10 @@ static void unaltered(uint64_t d, uint64_t r)
 
 static void altered_or_not(void)
 {
-    group_begin("changes that alter nothing take the turns and hashes of those that do");
-    for (uint64_t d = 1; d <= MOST_D; d = tried_behind(d, 5))
+    test_begin("changes that alter nothing take the turns and hashes of those that do");
+    for (uint64_t d = 1; d <= MOST_D; d = tried_after(d, 5))
         unaltered(d, 1 + chance_below(d));
-    group_end();
+    test_end();
 }
 
 void test_totals(void)

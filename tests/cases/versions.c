@@ -17,19 +17,19 @@ static void versions_at_set_up(void)
 {
     static const uint64_t no_numbers[] = {0,   4,   255, 256, 257, 258, 259, UINT64_C(1) << 32, (UINT64_C(1) << 32) + 1, UINT64_C(1) << 63,
                                           UINT64_MAX};
-    group_begin("set-ups of versions that there are not");
+    test_begin("set-ups of versions that there are not");
     for (size_t i = 0; i < COUNT(no_numbers); i++) {
         struct call call = file_set_up_call(no_numbers[i], B, D, R, T, N);
         call_finish(&call, LEGBARO_OUT_OF_LIMITS, "no version");
     }
-    group_end();
+    test_end();
 }
 
 /* A call with a byte of one of its buffers altered. */
 static void with_byte(const struct file *file, enum kind kind, enum argument argument, size_t at, uint64_t value, uint64_t number)
 {
     struct call call = file_call(file, kind);
-    call.lent[argument].bytes[at] = (uint8_t)value;
+    call.args[argument].bytes[at] = (uint8_t)value;
     call_finish(&call, number, "another version");
 }
 
@@ -82,8 +82,8 @@ static void put_card(const struct file *file, struct call *call, uint64_t versio
 {
     struct card numbers = file->book.numbers;
     numbers.version = version;
-    buffer_resize(&call->lent[CARD], second_card_bytes(version));
-    second_write_card(call->lent[CARD].bytes, &numbers);
+    buffer_resize(&call->args[CARD], reference_card_bytes(version));
+    reference_write_card(call->args[CARD].bytes, &numbers);
 }
 
 /* A call on a card of another version. */
@@ -99,8 +99,8 @@ static void with_its_mark(const struct file *file, uint64_t version, uint64_t nu
 {
     struct call update = file_call(file, UPDATE);
     put_card(file, &update, version);
-    buffer_resize(&update.lent[MARKS], version == LEGBARO_WITHOUT_MARKS ? 0 : 1);
-    memset(update.lent[MARKS].bytes, LEGBARO_LIVE, update.lent[MARKS].length);
+    buffer_resize(&update.args[MARKS], version == LEGBARO_WITHOUT_MARKS ? 0 : 1);
+    memset(update.args[MARKS].bytes, LEGBARO_LIVE, update.args[MARKS].length);
     call_finish(&update, number, "a mark of the other version");
 }
 
@@ -125,7 +125,7 @@ static void cards_of_another(const struct file *changing, const struct file *jud
 
 static void versions_of_a_file(uint64_t version)
 {
-    group_begin("other versions than the file's, which is %llu, in all that is read", (unsigned long long)version);
+    test_begin("other versions than the file's, which is %llu, in all that is read", (unsigned long long)version);
     struct file changing = file_set_up(version, B, D, R, T, N), judging = file_set_up(version, B, D, R, T, N);
     file_audit(&changing);
     file_do(&judging, DRAW);
@@ -136,7 +136,7 @@ static void versions_of_a_file(uint64_t version)
             cards_of_another(&changing, &judging, other);
     file_end(&changing);
     file_end(&judging);
-    group_end();
+    test_end();
 }
 
 void test_versions(void)

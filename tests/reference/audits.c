@@ -1,4 +1,4 @@
-/* The second implementation's set-up, draw, judge, cause and proof. See second.h. */
+/* The reference implementation's set-up, draw, judge, cause and proof. See reference.h. */
 #include "parts.h"
 
 #include <stdlib.h>
@@ -7,7 +7,7 @@
 /* ---- Set-up ---- */
 
 /* The wrong size of a card for its version is "at set-up the later 1". */
-uint64_t second_set_up(const uint8_t *master, size_t master_length,
+uint64_t reference_set_up(const uint8_t *master, size_t master_length,
                        const uint8_t *id, size_t id_length,
                        uint64_t version,
                        uint64_t B, uint64_t d, uint64_t r, uint64_t t, uint64_t n,
@@ -21,14 +21,14 @@ uint64_t second_set_up(const uint8_t *master, size_t master_length,
         return LEGBARO_WRONG_LENGTH;
     if (!version_fits(version) || !shape_fits(B, d, r) || !within(1, t, LEGBARO_MOST_TOKENS) || !within(1, n, LEGBARO_MOST_BLOCKS))
         return LEGBARO_OUT_OF_LIMITS;
-    if (card_length != second_card_bytes(version) || blocks_length != n * B || table_length != t * LEGBARO_RECORD_BYTES)
+    if (card_length != reference_card_bytes(version) || blocks_length != n * B || table_length != t * LEGBARO_RECORD_BYTES)
         return LEGBARO_WRONG_LENGTH;
     struct card c = {.version = version, .B = B, .d = d, .r = r, .t = t, .n = n, .ctr = 0, .next = 1, .open = 0};
     uint8_t *marks = calloc(n, 1); /* all live */
     must(marks != NULL);
     memcpy(c.id, id, sizeof c.id);
-    write_totals(totals, second_fresh_records(master, &c, blocks, marks, 1, t, table));
-    second_write_card(card, &c);
+    write_totals(totals, reference_fresh_records(master, &c, blocks, marks, 1, t, table));
+    reference_write_card(card, &c);
     free(marks);
     return LEGBARO_OK;
 }
@@ -37,7 +37,7 @@ uint64_t second_set_up(const uint8_t *master, size_t master_length,
 
 /* "It refuses, before everything else", and behind 22, "a date or minute outside these (16), and after 3 a draw outside every window (17)";
  * "straight after 8, an ask, one-step change or draw while something is pending (18)" */
-uint64_t second_draw_fault(uint64_t role, size_t master_length, const uint8_t *card, size_t card_length, size_t message_length,
+uint64_t reference_draw_fault(uint64_t role, size_t master_length, const uint8_t *card, size_t card_length, size_t message_length,
                            const uint8_t *plan, size_t plan_length, const struct when *when)
 {
     if (!may_audit(role))
@@ -49,11 +49,11 @@ uint64_t second_draw_fault(uint64_t role, size_t master_length, const uint8_t *c
         return LEGBARO_WRONG_LENGTH;
     if (card_fault(card, card_length))
         return card_fault(card, card_length);
-    if (!plan_fits(plan))
+    if (!schedule_fits(plan))
         return LEGBARO_OUT_OF_LIMITS;
     if (wait_for(plan, when) > 0)
         return LEGBARO_OUTSIDE_WINDOWS;
-    struct card c = second_read_card(card);
+    struct card c = reference_read_card(card);
     if (c.open != 0)
         return LEGBARO_TOKEN_OPEN;
     if (c.pending != 0)
@@ -61,7 +61,7 @@ uint64_t second_draw_fault(uint64_t role, size_t master_length, const uint8_t *c
     return c.next == c.t + 1 ? LEGBARO_NO_TOKEN_LEFT : LEGBARO_OK;
 }
 
-uint64_t second_draw(uint64_t role,
+uint64_t reference_draw(uint64_t role,
                      const uint8_t *master, size_t master_length,
                      uint8_t *card, size_t card_length,
                      uint8_t *message, size_t message_length,
@@ -69,10 +69,10 @@ uint64_t second_draw(uint64_t role,
                      uint64_t year, uint64_t month, uint64_t day, uint64_t minute)
 {
     struct when when = {year, month, day, minute};
-    uint64_t fault = second_draw_fault(role, master_length, card, card_length, message_length, plan, plan_length, &when);
+    uint64_t fault = reference_draw_fault(role, master_length, card, card_length, message_length, plan, plan_length, &when);
     if (fault)
         return fault;
-    struct card c = second_read_card(card);
+    struct card c = reference_read_card(card);
     struct message m = {.version = c.version, .i = c.next, .B = c.B, .d = c.d, .r = c.r, .n = c.n};
     memcpy(m.id, c.id, sizeof m.id);
     use_keys(master, c.id);
@@ -81,13 +81,13 @@ uint64_t second_draw(uint64_t role,
     write_message(message, &m);
     c.open = c.next;
     c.next++;
-    second_write_card(card, &c);
+    reference_write_card(card, &c);
     return LEGBARO_OK;
 }
 
 /* ---- Judge ---- */
 
-uint64_t second_judge_fault(uint64_t role, size_t master_length, const uint8_t *card, size_t card_length)
+uint64_t reference_judge_fault(uint64_t role, size_t master_length, const uint8_t *card, size_t card_length)
 {
     if (!may_audit(role))
         return LEGBARO_NO_RIGHT;
@@ -95,15 +95,15 @@ uint64_t second_judge_fault(uint64_t role, size_t master_length, const uint8_t *
         return LEGBARO_WRONG_LENGTH;
     if (card_fault(card, card_length))
         return card_fault(card, card_length);
-    return second_read_card(card).open == 0 ? LEGBARO_NONE_OPEN : LEGBARO_OK;
+    return reference_read_card(card).open == 0 ? LEGBARO_NONE_OPEN : LEGBARO_OK;
 }
 
-uint64_t second_verdict(const uint8_t *master, const struct card *c, const uint8_t *reply, size_t reply_length)
+uint64_t reference_verdict(const uint8_t *master, const struct card *c, const uint8_t *reply, size_t reply_length)
 {
     uint8_t id[LEGBARO_ID_BYTES], sent[TOKEN_BYTES], token[TOKEN_BYTES];
     if (reply_length != LEGBARO_REPLY_BYTES || !head_fits(reply, LEGBARO_REPLY_BYTES, c->version))
         return LEGBARO_REJECTED;
-    const uint8_t *at = behind_head(reply);
+    const uint8_t *at = after_head(reply);
     take_bytes(&at, id, sizeof id);
     if (memcmp(id, c->id, sizeof id) != 0 || take(&at, 4) != c->open)
         return LEGBARO_REJECTED;
@@ -114,18 +114,18 @@ uint64_t second_verdict(const uint8_t *master, const struct card *c, const uint8
     return memcmp(token, sent, sizeof token) == 0 ? LEGBARO_OK : LEGBARO_REJECTED;
 }
 
-uint64_t second_judge(uint64_t role,
+uint64_t reference_judge(uint64_t role,
                       const uint8_t *master, size_t master_length,
                       uint8_t *card, size_t card_length,
                       const uint8_t *reply, size_t reply_length)
 {
-    uint64_t fault = second_judge_fault(role, master_length, card, card_length);
+    uint64_t fault = reference_judge_fault(role, master_length, card, card_length);
     if (fault)
         return fault;
-    struct card c = second_read_card(card);
-    uint64_t verdict = second_verdict(master, &c, reply, reply_length);
+    struct card c = reference_read_card(card);
+    uint64_t verdict = reference_verdict(master, &c, reply, reply_length);
     c.open = 0;
-    second_write_card(card, &c);
+    reference_write_card(card, &c);
     return verdict;
 }
 
@@ -141,7 +141,7 @@ static uint64_t cause_of(const uint8_t *master, const struct card *c, const uint
     const uint8_t *record = reply + LEGBARO_REPLY_BYTES - LEGBARO_RECORD_BYTES;
     if (!head_fits(reply, LEGBARO_REPLY_BYTES, c->version) || !head_fits(record, LEGBARO_RECORD_BYTES, c->version))
         return 2;
-    const uint8_t *at = behind_head(reply), *in_record = behind_head(record);
+    const uint8_t *at = after_head(reply), *in_record = after_head(record);
     take_bytes(&at, id, sizeof id);
     uint64_t i = take(&at, 4), ctr = take(&in_record, 8), record_i = take(&in_record, 4);
     take_bytes(&at, sent, sizeof sent);
@@ -156,21 +156,21 @@ static uint64_t cause_of(const uint8_t *master, const struct card *c, const uint
 }
 
 /* "It shares judge's checks, 9 included" */
-uint64_t second_cause(uint64_t role,
+uint64_t reference_cause(uint64_t role,
                       const uint8_t *master, size_t master_length,
                       const uint8_t *card, size_t card_length,
                       const uint8_t *reply, size_t reply_length)
 {
-    uint64_t fault = second_judge_fault(role, master_length, card, card_length);
+    uint64_t fault = reference_judge_fault(role, master_length, card, card_length);
     if (fault)
         return fault;
-    struct card c = second_read_card(card);
+    struct card c = reference_read_card(card);
     return LEGBARO_OK + 256 * cause_of(master, &c, reply, reply_length);
 }
 
 /* ---- The host's proof ---- */
 
-uint64_t second_prove(const uint8_t *message, size_t message_length,
+uint64_t reference_prove(const uint8_t *message, size_t message_length,
                       const uint8_t *blocks, size_t blocks_length,
                       const uint8_t *marks, size_t marks_length,
                       const uint8_t *table, size_t table_length,

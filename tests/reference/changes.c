@@ -1,4 +1,4 @@
-/* The second implementation's changes: update, delete, append, load and batch. See second.h. */
+/* The reference implementation's changes: update, delete, append, load and batch. See reference.h. */
 #include "parts.h"
 
 #include <stdlib.h>
@@ -6,60 +6,60 @@
 /* ---- What is turned away ---- */
 
 /* "1 for sizes that follow from fields": of what is handed over. The lengths of a load and of a batch are looked at later. */
-static int handed_fits(const struct edit *edit, const struct card *c)
+static int handed_fits(const struct change *change, const struct card *c)
 {
-    int has_old = edit->kind == EDIT_UPDATE || edit->kind == EDIT_DELETE;
-    int has_new = edit->kind == EDIT_UPDATE || edit->kind == EDIT_APPEND;
+    int has_old = change->kind == CHANGE_UPDATE || change->kind == CHANGE_DELETE;
+    int has_new = change->kind == CHANGE_UPDATE || change->kind == CHANGE_APPEND;
     size_t marks = c->version == 1 ? 0 : 1;
-    return (!has_old || (edit->old_length == c->B && edit->mark_length == marks)) && (!has_new || edit->new_length == c->B);
+    return (!has_old || (change->old_length == c->B && change->mark_length == marks)) && (!has_new || change->new_length == c->B);
 }
 
 /* "4, 5"; of a load "just before 5, a load of no bytes or of a length that B doesn't divide (12)", and "code 5 covers one passing the
  * most n"; of a batch 14 "just before 4" */
-static uint64_t place_fault(const struct edit *edit, const struct card *c)
+static uint64_t blocks_fault(const struct change *change, const struct card *c)
 {
-    switch (edit->kind) {
-    case EDIT_APPEND:
+    switch (change->kind) {
+    case CHANGE_APPEND:
         return c->n == LEGBARO_MOST_BLOCKS ? LEGBARO_FILE_FULL : LEGBARO_OK;
-    case EDIT_LOAD:
-        if (edit->new_length == 0 || edit->new_length % c->B != 0)
+    case CHANGE_LOAD:
+        if (change->new_length == 0 || change->new_length % c->B != 0)
             return LEGBARO_NOT_WHOLE_BLOCKS;
-        return edit->new_length / c->B > LEGBARO_MOST_BLOCKS - c->n ? LEGBARO_FILE_FULL : LEGBARO_OK;
-    case EDIT_BATCH:
-        return items_fault(edit->items, edit->items_length, c);
+        return change->new_length / c->B > LEGBARO_MOST_BLOCKS - c->n ? LEGBARO_FILE_FULL : LEGBARO_OK;
+    case CHANGE_BATCH:
+        return items_fault(change->items, change->items_length, c);
     default:
-        return within(1, edit->m, c->n) ? LEGBARO_OK : LEGBARO_NO_SUCH_BLOCK;
+        return within(1, change->m, c->n) ? LEGBARO_OK : LEGBARO_NO_SUCH_BLOCK;
     }
 }
 
 /* "straight after 8, an ask, one-step change or draw while something is pending (18)"; "code 10 looks at the last counter issued" */
-uint64_t edit_fault(const struct edit *edit, const struct card *c, size_t table_length)
+uint64_t change_fault(const struct change *change, const struct card *c, size_t table_length)
 {
-    if (table_length != c->t * LEGBARO_RECORD_BYTES || !handed_fits(edit, c))
+    if (table_length != c->t * LEGBARO_RECORD_BYTES || !handed_fits(change, c))
         return LEGBARO_WRONG_LENGTH;
-    if (!marks_fit(edit->mark, edit->mark_length))
+    if (!marks_fit(change->mark, change->mark_length))
         return LEGBARO_BAD_MARK;
     if (c->open != 0)
         return LEGBARO_TOKEN_OPEN;
     if (c->pending != 0)
         return LEGBARO_CHANGE_PENDING;
-    if (place_fault(edit, c))
-        return place_fault(edit, c);
+    if (blocks_fault(change, c))
+        return blocks_fault(change, c);
     return c->last_issued == LEGBARO_MOST_COUNTER ? LEGBARO_COUNTER_AT_MOST : LEGBARO_OK;
 }
 
 /* "It refuses, ahead of every check, an unknown role or one lacking the right (22)" */
-uint64_t second_change_fault(uint64_t role, const struct edit *edit, size_t master_length, const uint8_t *card, size_t card_length,
+uint64_t reference_change_fault(uint64_t role, const struct change *change, size_t master_length, const uint8_t *card, size_t card_length,
                              size_t table_length, size_t totals_length)
 {
-    if (!may_change(role, edit->kind))
+    if (!may_change(role, change->kind))
         return LEGBARO_NO_RIGHT;
     if (master_length != LEGBARO_MASTER_BYTES || !card_sized(card_length) || totals_length != LEGBARO_TOTALS_BYTES)
         return LEGBARO_WRONG_LENGTH;
     if (card_fault(card, card_length))
         return card_fault(card, card_length);
-    struct card c = second_read_card(card);
-    return edit_fault(edit, &c, table_length);
+    struct card c = reference_read_card(card);
+    return change_fault(change, &c, table_length);
 }
 
 /* "Unused records in the standing table are those sealed under the last committed counter" */
@@ -76,47 +76,47 @@ uint64_t bad_record(const uint8_t *master, const struct card *c, const uint8_t *
 /* ---- The blocks that are changed ---- */
 
 /* A change is a list of these. */
-struct work {
-    struct block_change *items;
+struct block_changes {
+    struct block_change *list;
     size_t count;
 };
 
-static size_t changed_blocks(const struct edit *edit, const struct card *c)
+static size_t block_change_count(const struct change *change, const struct card *c)
 {
-    switch (edit->kind) {
-    case EDIT_LOAD:
-        return edit->new_length / c->B;
-    case EDIT_BATCH:
-        return item_count(edit->items_length, c);
+    switch (change->kind) {
+    case CHANGE_LOAD:
+        return change->new_length / c->B;
+    case CHANGE_BATCH:
+        return item_count(change->items_length, c);
     default:
         return 1;
     }
 }
 
-/* Change e, from 0, of an edit without a fault. */
-static struct block_change change_at(const struct edit *edit, const struct card *c, size_t e)
+/* Change e, from 0, of a change without a fault. */
+static struct block_change block_change_at(const struct change *change, const struct card *c, size_t e)
 {
-    switch (edit->kind) {
-    case EDIT_UPDATE:
-        return (struct block_change){edit->m, edit->old_block, edit->mark, edit->new_blocks, &live};
-    case EDIT_DELETE:
-        return (struct block_change){edit->m, edit->old_block, edit->mark, deleted_block, &deleted};
-    case EDIT_BATCH:
-        return item_change(edit->items, c, e);
+    switch (change->kind) {
+    case CHANGE_UPDATE:
+        return (struct block_change){change->m, change->old_block, change->mark, change->new_blocks, &live};
+    case CHANGE_DELETE:
+        return (struct block_change){change->m, change->old_block, change->mark, deleted_block, &deleted};
+    case CHANGE_BATCH:
+        return item_change(change->items, c, e);
     default:
-        return (struct block_change){c->n + 1 + e, NULL, NULL, edit->new_blocks + e * c->B, &live};
+        return (struct block_change){c->n + 1 + e, NULL, NULL, change->new_blocks + e * c->B, &live};
     }
 }
 
-/* The list of an edit without a fault; its items are to be freed. */
-static struct work work_of(const struct edit *edit, const struct card *c)
+/* The list of a change without a fault; its items are to be freed. */
+static struct block_changes block_changes_of(const struct change *change, const struct card *c)
 {
-    struct work work = {.count = changed_blocks(edit, c)};
-    work.items = malloc(work.count * sizeof *work.items);
-    must(work.items != NULL);
-    for (size_t e = 0; e < work.count; e++)
-        work.items[e] = change_at(edit, c, e);
-    return work;
+    struct block_changes changes = {.count = block_change_count(change, c)};
+    changes.list = malloc(changes.count * sizeof *changes.list);
+    must(changes.list != NULL);
+    for (size_t e = 0; e < changes.count; e++)
+        changes.list[e] = block_change_at(change, c, e);
+    return changes;
 }
 
 /* ---- Carrying a change out ---- */
@@ -124,7 +124,7 @@ static struct work work_of(const struct edit *edit, const struct card *c)
 /* Opens an unused record, xors the hashes of old and new block into its token for every item whose row it draws, and seals it: "Every ask
  * takes the last issued plus 1". Answers the work: "a change walks back once for each of its blocks, altered or not, and each unused token,
  * hashing old and new bytes where drawn" */
-static struct totals reseal(uint8_t *record, const struct card *c, uint64_t i, const struct work *work)
+static struct totals reseal(uint8_t *record, const struct card *c, uint64_t i, const struct block_changes *changes)
 {
     struct totals totals = {0, 0};
     uint8_t k[KEY_BYTES], hash_key[KEY_BYTES], token[TOKEN_BYTES];
@@ -132,7 +132,7 @@ static struct totals reseal(uint8_t *record, const struct card *c, uint64_t i, c
     must(open_record(record, c, i, token));
     draw_key_of(i, k);
     use_draw_key(k);
-    for (const struct block_change *item = work->items; item < work->items + work->count; item++) {
+    for (const struct block_change *item = changes->list; item < changes->list + changes->count; item++) {
         struct walk walk = permuted_back(c->d, (item->m - 1) % c->d);
         uint64_t j = walk.end + 1, index = (item->m - 1) / c->d * c->d + j;
         totals.turns += walk.turns;
@@ -152,62 +152,62 @@ static struct totals reseal(uint8_t *record, const struct card *c, uint64_t i, c
     return totals;
 }
 
-uint64_t carry_out(const struct edit *edit, const struct card *c, uint8_t *table, uint8_t *totals)
+uint64_t carry_out(const struct change *change, const struct card *c, uint8_t *table, uint8_t *totals)
 {
-    struct work work = work_of(edit, c);
+    struct block_changes changes = block_changes_of(change, c);
     struct totals all = {0, 0};
     uint64_t n = c->n;
     for (uint64_t i = c->next; i <= c->t; i++)
-        second_add_totals(&all, reseal(record_at(table, i), c, i, &work));
+        reference_add_totals(&all, reseal(record_at(table, i), c, i, &changes));
     write_totals(totals, all);
-    for (size_t e = 0; e < work.count; e++)
-        if (!work.items[e].old_block)
+    for (size_t e = 0; e < changes.count; e++)
+        if (!changes.list[e].old_block)
             n++;
-    free(work.items);
+    free(changes.list);
     return n;
 }
 
 /* The call: its fault, 7 with the lowest unused token whose record does not open, or the change carried out. "A one-step change, load or
  * batch too, is ask and commit together" */
-static uint64_t change(uint64_t role, const struct edit *edit, const uint8_t *master, size_t master_length, uint8_t *card,
+static uint64_t change_in_one_step(uint64_t role, const struct change *change, const uint8_t *master, size_t master_length, uint8_t *card,
                        size_t card_length, uint8_t *table, size_t table_length, uint8_t *totals, size_t totals_length)
 {
-    uint64_t fault = second_change_fault(role, edit, master_length, card, card_length, table_length, totals_length);
+    uint64_t fault = reference_change_fault(role, change, master_length, card, card_length, table_length, totals_length);
     if (fault)
         return fault;
-    struct card c = second_read_card(card);
+    struct card c = reference_read_card(card);
     uint64_t bad = bad_record(master, &c, table);
     if (bad)
         return LEGBARO_BAD_RECORD + 256 * bad;
-    c.n = carry_out(edit, &c, table, totals);
+    c.n = carry_out(change, &c, table, totals);
     c.last_issued++;
     c.ctr = c.last_issued;
-    second_write_card(card, &c);
+    reference_write_card(card, &c);
     return LEGBARO_OK;
 }
 
-struct edit update_edit(uint64_t m, const uint8_t *old_block, size_t old_length, const uint8_t *mark, size_t mark_length,
+struct change update_change(uint64_t m, const uint8_t *old_block, size_t old_length, const uint8_t *mark, size_t mark_length,
                         const uint8_t *new_block, size_t new_length)
 {
-    struct edit edit = delete_edit(m, old_block, old_length, mark, mark_length);
-    edit.kind = EDIT_UPDATE;
-    edit.new_blocks = new_block;
-    edit.new_length = new_length;
-    return edit;
+    struct change change = delete_change(m, old_block, old_length, mark, mark_length);
+    change.kind = CHANGE_UPDATE;
+    change.new_blocks = new_block;
+    change.new_length = new_length;
+    return change;
 }
 
-struct edit delete_edit(uint64_t m, const uint8_t *old_block, size_t old_length, const uint8_t *mark, size_t mark_length)
+struct change delete_change(uint64_t m, const uint8_t *old_block, size_t old_length, const uint8_t *mark, size_t mark_length)
 {
-    struct edit edit = {.kind = EDIT_DELETE,
+    struct change change = {.kind = CHANGE_DELETE,
                         .m = m,
                         .old_block = old_block,
                         .old_length = old_length,
                         .mark = mark,
                         .mark_length = mark_length};
-    return edit;
+    return change;
 }
 
-uint64_t second_update(uint64_t role,
+uint64_t reference_update(uint64_t role,
                        const uint8_t *master, size_t master_length,
                        uint8_t *card, size_t card_length,
                        uint8_t *table, size_t table_length,
@@ -217,11 +217,11 @@ uint64_t second_update(uint64_t role,
                        const uint8_t *new_block, size_t new_block_length,
                        uint8_t *totals, size_t totals_length)
 {
-    struct edit edit = update_edit(m, old_block, old_block_length, mark, mark_length, new_block, new_block_length);
-    return change(role, &edit, master, master_length, card, card_length, table, table_length, totals, totals_length);
+    struct change change = update_change(m, old_block, old_block_length, mark, mark_length, new_block, new_block_length);
+    return change_in_one_step(role, &change, master, master_length, card, card_length, table, table_length, totals, totals_length);
 }
 
-uint64_t second_delete(uint64_t role,
+uint64_t reference_delete(uint64_t role,
                        const uint8_t *master, size_t master_length,
                        uint8_t *card, size_t card_length,
                        uint8_t *table, size_t table_length,
@@ -230,39 +230,39 @@ uint64_t second_delete(uint64_t role,
                        const uint8_t *mark, size_t mark_length,
                        uint8_t *totals, size_t totals_length)
 {
-    struct edit edit = delete_edit(m, old_block, old_block_length, mark, mark_length);
-    return change(role, &edit, master, master_length, card, card_length, table, table_length, totals, totals_length);
+    struct change change = delete_change(m, old_block, old_block_length, mark, mark_length);
+    return change_in_one_step(role, &change, master, master_length, card, card_length, table, table_length, totals, totals_length);
 }
 
-uint64_t second_append(uint64_t role,
+uint64_t reference_append(uint64_t role,
                        const uint8_t *master, size_t master_length,
                        uint8_t *card, size_t card_length,
                        uint8_t *table, size_t table_length,
                        const uint8_t *new_block, size_t new_block_length,
                        uint8_t *totals, size_t totals_length)
 {
-    struct edit edit = {.kind = EDIT_APPEND, .new_blocks = new_block, .new_length = new_block_length};
-    return change(role, &edit, master, master_length, card, card_length, table, table_length, totals, totals_length);
+    struct change change = {.kind = CHANGE_APPEND, .new_blocks = new_block, .new_length = new_block_length};
+    return change_in_one_step(role, &change, master, master_length, card, card_length, table, table_length, totals, totals_length);
 }
 
-uint64_t second_load(uint64_t role,
+uint64_t reference_load(uint64_t role,
                      const uint8_t *master, size_t master_length,
                      uint8_t *card, size_t card_length,
                      uint8_t *table, size_t table_length,
                      const uint8_t *blocks, size_t blocks_length,
                      uint8_t *totals, size_t totals_length)
 {
-    struct edit edit = {.kind = EDIT_LOAD, .new_blocks = blocks, .new_length = blocks_length};
-    return change(role, &edit, master, master_length, card, card_length, table, table_length, totals, totals_length);
+    struct change change = {.kind = CHANGE_LOAD, .new_blocks = blocks, .new_length = blocks_length};
+    return change_in_one_step(role, &change, master, master_length, card, card_length, table, table_length, totals, totals_length);
 }
 
-uint64_t second_batch(uint64_t role,
+uint64_t reference_batch(uint64_t role,
                       const uint8_t *master, size_t master_length,
                       uint8_t *card, size_t card_length,
                       uint8_t *table, size_t table_length,
                       const uint8_t *items, size_t items_length,
                       uint8_t *totals, size_t totals_length)
 {
-    struct edit edit = {.kind = EDIT_BATCH, .items = items, .items_length = items_length};
-    return change(role, &edit, master, master_length, card, card_length, table, table_length, totals, totals_length);
+    struct change change = {.kind = CHANGE_BATCH, .items = items, .items_length = items_length};
+    return change_in_one_step(role, &change, master, master_length, card, card_length, table, table_length, totals, totals_length);
 }

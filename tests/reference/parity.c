@@ -1,4 +1,4 @@
-/* The second implementation's parity. See second.h. */
+/* The reference implementation's parity. See reference.h. */
 #include "parts.h"
 
 #include <stdlib.h>
@@ -58,7 +58,7 @@ static int lost_fits(uint64_t blocks, const uint8_t *lost, size_t count)
 }
 
 /* "Parity p (from 0) of k data blocks weighs data q by the inverse of (k + p) xor q" */
-uint64_t second_parity_encode(uint64_t B, uint64_t k, uint64_t p, const uint8_t *data, size_t data_length, uint8_t *parity,
+uint64_t reference_parity_encode(uint64_t B, uint64_t k, uint64_t p, const uint8_t *data, size_t data_length, uint8_t *parity,
                               size_t parity_length)
 {
     if (!within(1, B, LEGBARO_MOST_BLOCK_BYTES))
@@ -132,7 +132,7 @@ static uint64_t rebuild_fault(uint64_t B, uint64_t k, uint64_t p, size_t blocks_
 }
 
 /* "writes the data, solved from the lowest surviving parity blocks, as many as data are lost" */
-uint64_t second_parity_rebuild(uint64_t B, uint64_t k, uint64_t p, const uint8_t *blocks, size_t blocks_length, const uint8_t *lost,
+uint64_t reference_parity_rebuild(uint64_t B, uint64_t k, uint64_t p, const uint8_t *blocks, size_t blocks_length, const uint8_t *lost,
                                size_t lost_length, uint8_t *data, size_t data_length)
 {
     struct equations e = {.count = 0};

@@ -1,18 +1,18 @@
 /*
- * What the files of the second implementation share. Tests use second.h alone.
+ * What the files of the reference implementation share. Tests use reference.h alone.
  *
- *   second_records.c       numbers and bytes, card and message, limits
- *   second_roles.c         who may do what
- *   second_permutation.c   the permutation P
- *   second_tokens.c        keys, tokens, token records
- *   second_changes.c       update, delete, append, load, batch
- *   second_asks.c          the same asked; commit, drop
- *   second_batches.c       the items of a batch
- *   second_audits.c        set-up, draw, judge, cause, the host's proof
- *   second_pools.c         pooled replies: judged, and made by the host
- *   second_plans.c         positions, sheet
- *   second_times.c         the calendar, windows, wait
- *   second_parity.c        parity: encode, rebuild
+ *   records.c       numbers and bytes, card and message, limits
+ *   roles.c         who may do what
+ *   permutation.c   the permutation P
+ *   tokens.c        keys, tokens, token records
+ *   changes.c       update, delete, append, load, batch
+ *   asks.c          the same asked; commit, drop
+ *   batches.c       the items of a batch
+ *   audits.c        set-up, draw, judge, cause, the host's proof
+ *   pools.c         pooled replies: judged, and made by the host
+ *   planning.c         positions, sheet
+ *   schedule.c         the calendar, windows, wait
+ *   parity.c        parity: encode, rebuild
  */
 #ifndef PARTS_H
 #define PARTS_H
@@ -31,7 +31,7 @@ struct message {
 /* libcrypto fails only where it has no memory, and then nothing can be compared. */
 void must(int done);
 
-/* ---- second_records.c ---- */
+/* ---- records.c ---- */
 
 /* Writes a number as `width` bytes, big-endian, or bytes, and answers the place behind them. */
 uint8_t *put(uint8_t *at, unsigned width, uint64_t value);
@@ -45,7 +45,7 @@ void take_bytes(const uint8_t **at, uint8_t *bytes, size_t length);
 uint8_t *put_head(uint8_t *at, size_t length, uint64_t version);
 int head_fits(const uint8_t *bytes, size_t length, uint64_t version);
 uint64_t version_in(const uint8_t *bytes);
-const uint8_t *behind_head(const uint8_t *bytes);
+const uint8_t *after_head(const uint8_t *bytes);
 
 struct message read_message(const uint8_t *bytes);
 void write_message(uint8_t *bytes, const struct message *m);
@@ -63,14 +63,14 @@ int message_fits(const struct message *m);
 int card_sized(size_t length);
 uint64_t card_fault(const uint8_t *card, size_t length);
 
-/* ---- second_roles.c ---- */
+/* ---- roles.c ---- */
 
 /* Whether a role may make a change, in one step or asked; commit or drop; draw, judge, singly or a pool, and ask the cause. */
-int may_change(uint64_t role, enum edit_kind kind);
+int may_change(uint64_t role, enum change_kind kind);
 int may_settle(uint64_t role);
 int may_audit(uint64_t role);
 
-/* ---- second_permutation.c ---- */
+/* ---- permutation.c ---- */
 
 void permutation_start(void);
 void permutation_end(void);
@@ -80,7 +80,7 @@ void use_draw_key(const uint8_t *key);
 struct walk permuted(uint64_t d, uint64_t x);
 struct walk permuted_back(uint64_t d, uint64_t x);
 
-/* ---- second_tokens.c ---- */
+/* ---- tokens.c ---- */
 
 /* Puts W, Z and K of a file in use. Then the keys k and c of token i. */
 void use_keys(const uint8_t *master, const uint8_t *id);
@@ -90,7 +90,7 @@ void hash_key_of(uint64_t i, uint8_t *c);
 /* Xors SHA-256(c, index as four bytes, mark, block) into a token, or without a mark where that is null. */
 void mix_block(uint8_t *token, const uint8_t *c, uint64_t index, const uint8_t *mark, const uint8_t *block, size_t B);
 
-/* The numbers over which a token is reckoned; writes the token under k and c over n blocks, and answers the work. In version 1 no marks are
+/* The numbers over which a token is reckoned; writes the token under k and c over n blocks, and answers the changes. In version 1 no marks are
  * read. */
 struct shape {
     uint64_t version, d, r, B, n;
@@ -107,15 +107,15 @@ uint8_t *record_at(uint8_t *table, uint64_t i);
 void seal(uint8_t *record, uint64_t version, uint64_t ctr, uint64_t i, const uint8_t *token);
 int open_record(const uint8_t *record, const struct card *c, uint64_t i, uint8_t *token);
 
-/* ---- second_times.c ---- */
+/* ---- schedule.c ---- */
 
 /* Whether there is such a date and minute; whether the minutes of a plan are within the limits; the wait, WEEK for none. */
 enum { DAY = 24 * 60, WEEK = 7 * DAY, WEEKDAYS = 7, PLAN_BYTES = WEEKDAYS * 2 * 2 };
 int when_fits(const struct when *when);
-int plan_fits(const uint8_t *plan);
+int schedule_fits(const uint8_t *plan);
 uint64_t wait_for(const uint8_t *plan, const struct when *when);
 
-/* ---- second_batches.c ---- */
+/* ---- batches.c ---- */
 
 /* Block m was old_block, null for none, with its mark, and becomes new_block with another; in version 1 no marks are read. */
 struct block_change {
@@ -134,19 +134,19 @@ uint64_t items_fault(const uint8_t *items, size_t length, const struct card *c);
 size_t item_count(size_t length, const struct card *c);
 struct block_change item_change(const uint8_t *items, const struct card *c, size_t e);
 
-/* ---- second_changes.c ---- */
+/* ---- changes.c ---- */
 
-/* The edits of an update and of a deletion. */
-struct edit update_edit(uint64_t m, const uint8_t *old_block, size_t old_length, const uint8_t *mark, size_t mark_length,
+/* The changes of an update and of a deletion. */
+struct change update_change(uint64_t m, const uint8_t *old_block, size_t old_length, const uint8_t *mark, size_t mark_length,
                         const uint8_t *new_block, size_t new_length);
-struct edit delete_edit(uint64_t m, const uint8_t *old_block, size_t old_length, const uint8_t *mark, size_t mark_length);
+struct change delete_change(uint64_t m, const uint8_t *old_block, size_t old_length, const uint8_t *mark, size_t mark_length);
 
-/* The code that an edit gives where the card gives none, 7 apart; the lowest unused token whose record does not open, 0 for none. */
-uint64_t edit_fault(const struct edit *edit, const struct card *c, size_t table_length);
+/* The code that a change gives where the card gives none, 7 apart; the lowest unused token whose record does not open, 0 for none. */
+uint64_t change_fault(const struct change *change, const struct card *c, size_t table_length);
 uint64_t bad_record(const uint8_t *master, const struct card *c, const uint8_t *table);
 
-/* Carries an edit without a fault out on a table whose unused records open, at the counter behind the last issued. Writes the totals and
+/* Carries a change without a fault out on a table whose unused records open, at the counter behind the last issued. Writes the totals and
  * answers the number of blocks after it. The file's keys are in use. */
-uint64_t carry_out(const struct edit *edit, const struct card *c, uint8_t *table, uint8_t *totals);
+uint64_t carry_out(const struct change *change, const struct card *c, uint8_t *table, uint8_t *totals);
 
 #endif

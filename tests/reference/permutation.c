@@ -1,4 +1,4 @@
-/* The second implementation's permutation P of 0..d-1. See second_parts.h. */
+/* The reference implementation's permutation P of 0..d-1. See parts.h. */
 #include "parts.h"
 
 #include <openssl/evp.h>
@@ -18,7 +18,7 @@ void permutation_end(void)
     EVP_CIPHER_CTX_free(permuting);
 }
 
-unsigned second_half_width(uint64_t d)
+unsigned reference_half_width(uint64_t d)
 {
     unsigned b = 0;
     while ((d - 1) >> b)
@@ -71,7 +71,7 @@ void use_draw_key(const uint8_t *key)
 /* "Apply all eight rounds again until the number is below d"; "how many times the eight rounds were applied, both ways" */
 struct walk permuted(uint64_t d, uint64_t x)
 {
-    unsigned h = second_half_width(d);
+    unsigned h = reference_half_width(d);
     struct walk walk = {x, 0};
     do {
         walk.end = eight_rounds(walk.end, h);
@@ -82,7 +82,7 @@ struct walk permuted(uint64_t d, uint64_t x)
 
 struct walk permuted_back(uint64_t d, uint64_t x)
 {
-    unsigned h = second_half_width(d);
+    unsigned h = reference_half_width(d);
     struct walk walk = {x, 0};
     do {
         walk.end = eight_rounds_back(walk.end, h);
@@ -91,13 +91,13 @@ struct walk permuted_back(uint64_t d, uint64_t x)
     return walk;
 }
 
-struct walk second_permuted(const uint8_t *key, uint64_t d, uint64_t x)
+struct walk reference_permuted(const uint8_t *key, uint64_t d, uint64_t x)
 {
     use_draw_key(key);
     return permuted(d, x);
 }
 
-struct walk second_permuted_back(const uint8_t *key, uint64_t d, uint64_t x)
+struct walk reference_permuted_back(const uint8_t *key, uint64_t d, uint64_t x)
 {
     use_draw_key(key);
     return permuted_back(d, x);

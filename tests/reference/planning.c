@@ -1,9 +1,9 @@
-/* The second implementation's helpers for planning. See second.h. */
+/* The reference implementation's helpers for planning. See reference.h. */
 #include "parts.h"
 
 /* "A helper gives positions as r × planned rows / present blocks, rounded up. There r is at most 512 and the present blocks, and these at
  * most the planned rows, else 3"; "after 3, more than 512 positions (13)"; "One number given stands in the token's place beside code 0" */
-uint64_t second_positions(uint64_t r, uint64_t planned, uint64_t present)
+uint64_t reference_positions(uint64_t r, uint64_t planned, uint64_t present)
 {
     if (!within(1, planned, LEGBARO_MOST_ROWS) || !within(1, present, planned) || !within(1, r, LEGBARO_MOST_POSITIONS) || r > present)
         return LEGBARO_OUT_OF_LIMITS;
@@ -42,7 +42,7 @@ static uint64_t escape(uint64_t d, uint64_t r, uint64_t m)
 /* "From B, d, r, t, n and m alone the sheet gives the table's bytes, a ceiling of r + 4^h - d on the turns of one token .., and the least
  * and most hashes .. where q = n div d and s = n mod d. For m damaged rows it gives last the chance of escape"; "It refuses, after 3, m
  * above d (21)" */
-uint64_t second_sheet(uint64_t B, uint64_t d, uint64_t r, uint64_t t, uint64_t n, uint64_t m, uint8_t *out, size_t out_length)
+uint64_t reference_sheet(uint64_t B, uint64_t d, uint64_t r, uint64_t t, uint64_t n, uint64_t m, uint8_t *out, size_t out_length)
 {
     enum { NUMBERS = 5, RECORD = 63 };
     if (out_length != NUMBERS * sizeof(uint64_t))
@@ -52,7 +52,7 @@ uint64_t second_sheet(uint64_t B, uint64_t d, uint64_t r, uint64_t t, uint64_t n
     if (m > d)
         return LEGBARO_TOO_MANY_DAMAGED;
     out = put(out, 8, t * RECORD);
-    out = put(out, 8, r + (UINT64_C(1) << 2 * second_half_width(d)) - d);
+    out = put(out, 8, r + (UINT64_C(1) << 2 * reference_half_width(d)) - d);
     out = put(out, 8, least_hashes(r, n / d, n % d, d));
     out = put(out, 8, most_hashes(r, n / d, n % d));
     put(out, 8, escape(d, r, m));

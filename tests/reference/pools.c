@@ -1,4 +1,4 @@
-/* The second implementation's pools: one reply judged for several cards, and the host's making of it. See second.h. */
+/* The reference implementation's pools: one reply judged for several cards, and the host's making of it. See reference.h. */
 #include "parts.h"
 
 #include <string.h>
@@ -46,7 +46,7 @@ static int next_card(const uint8_t **at, const uint8_t *end, struct card *c)
 {
     if (*at == end)
         return 0;
-    *c = second_read_card(*at);
+    *c = reference_read_card(*at);
     *at += told_bytes(*at);
     return 1;
 }
@@ -93,7 +93,7 @@ static int some_open_is_0(const uint8_t *cards, size_t length)
 }
 
 /* "judged by roles 2 and 3"; "It refuses, after 3, any other number of cards or an id that occurs twice (23)" */
-uint64_t second_pool_fault(uint64_t role, size_t master_length, const uint8_t *cards, size_t cards_length)
+uint64_t reference_pool_fault(uint64_t role, size_t master_length, const uint8_t *cards, size_t cards_length)
 {
     if (!may_audit(role))
         return LEGBARO_NO_RIGHT;
@@ -127,14 +127,14 @@ static int entry_passes(const uint8_t *master, const struct card *c, const uint8
 
 /* "accepted exactly when its size, length, version and number fit, .. and the xor of the opened tokens is the one sent"; "Its version is 1, a
  * record's its card's" */
-uint64_t second_pool_verdict(const uint8_t *master, const uint8_t *cards, size_t cards_length, const uint8_t *reply, size_t reply_length)
+uint64_t reference_pool_verdict(const uint8_t *master, const uint8_t *cards, size_t cards_length, const uint8_t *reply, size_t reply_length)
 {
     uint8_t sent[TOKEN_BYTES], token[TOKEN_BYTES], sum[TOKEN_BYTES] = {0};
     const uint8_t *end = cards + cards_length;
     size_t files = card_count(cards, cards_length);
     if (reply_length != pooled_bytes(files) || !head_fits(reply, reply_length, POOL_VERSION))
         return LEGBARO_REJECTED;
-    const uint8_t *at = behind_head(reply);
+    const uint8_t *at = after_head(reply);
     if (take(&at, 2) != files)
         return LEGBARO_REJECTED;
     take_bytes(&at, sent, sizeof sent);
@@ -147,19 +147,19 @@ uint64_t second_pool_verdict(const uint8_t *master, const uint8_t *cards, size_t
 }
 
 /* "Every verdict closes all draws." */
-uint64_t second_judge_pool(uint64_t role,
+uint64_t reference_judge_pool(uint64_t role,
                            const uint8_t *master, size_t master_length,
                            uint8_t *cards, size_t cards_length,
                            const uint8_t *reply, size_t reply_length)
 {
-    uint64_t fault = second_pool_fault(role, master_length, cards, cards_length);
+    uint64_t fault = reference_pool_fault(role, master_length, cards, cards_length);
     if (fault)
         return fault;
-    uint64_t verdict = second_pool_verdict(master, cards, cards_length, reply, reply_length);
+    uint64_t verdict = reference_pool_verdict(master, cards, cards_length, reply, reply_length);
     for (size_t at = 0; at < cards_length; at += told_bytes(cards + at)) {
-        struct card c = second_read_card(cards + at);
+        struct card c = reference_read_card(cards + at);
         c.open = 0;
-        second_write_card(cards + at, &c);
+        reference_write_card(cards + at, &c);
     }
     return verdict;
 }
@@ -183,14 +183,14 @@ static void write_pooled(uint8_t *pooled, const uint8_t *replies, size_t count)
     uint8_t *sum = put(put_head(pooled, pooled_bytes(count), POOL_VERSION), 2, count), *at = sum + TOKEN_BYTES;
     memset(sum, 0, TOKEN_BYTES);
     for (size_t e = 0; e < count; e++) {
-        const uint8_t *name = behind_head(replies + e * LEGBARO_REPLY_BYTES), *token = name + LEGBARO_ID_BYTES + 4;
+        const uint8_t *name = after_head(replies + e * LEGBARO_REPLY_BYTES), *token = name + LEGBARO_ID_BYTES + 4;
         xor_into(sum, token);
         at = put_bytes(at, name, LEGBARO_ID_BYTES + 4);
         at = put_bytes(at, token + TOKEN_BYTES, LEGBARO_RECORD_BYTES);
     }
 }
 
-uint64_t second_pool(const uint8_t *replies, size_t replies_length, uint8_t *pooled, size_t pooled_length)
+uint64_t reference_pool(const uint8_t *replies, size_t replies_length, uint8_t *pooled, size_t pooled_length)
 {
     size_t count = replies_length / LEGBARO_REPLY_BYTES;
     if (replies_length % LEGBARO_REPLY_BYTES != 0)

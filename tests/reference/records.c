@@ -1,4 +1,4 @@
-/* The second implementation's records: numbers and bytes, card and message, and their limits. See second_parts.h. */
+/* The reference implementation's records: numbers and bytes, card and message, and their limits. See parts.h. */
 #include "parts.h"
 
 #include <string.h>
@@ -50,7 +50,7 @@ uint64_t version_in(const uint8_t *bytes)
     return bytes[LENGTH_FIELD];
 }
 
-const uint8_t *behind_head(const uint8_t *bytes)
+const uint8_t *after_head(const uint8_t *bytes)
 {
     return bytes + LENGTH_FIELD + 1;
 }
@@ -58,17 +58,17 @@ const uint8_t *behind_head(const uint8_t *bytes)
 /* ---- Card, message and totals ---- */
 
 /* "Card, 43: length 41"; "Card version 3 (63 bytes, length 61)" */
-size_t second_card_bytes(uint64_t version)
+size_t reference_card_bytes(uint64_t version)
 {
     return version == 3 ? 63 : 43;
 }
 
 /* "adds the last counter issued 8, and the pending counter 8 and pending block count 4"; "Versions 1 and 2 read as nothing pending and ctr
  * last issued" */
-struct card second_read_card(const uint8_t *bytes)
+struct card reference_read_card(const uint8_t *bytes)
 {
     struct card c = {.version = version_in(bytes)};
-    const uint8_t *at = behind_head(bytes);
+    const uint8_t *at = after_head(bytes);
     take_bytes(&at, c.id, sizeof c.id);
     c.B = take(&at, 2);
     c.d = take(&at, 4);
@@ -84,9 +84,9 @@ struct card second_read_card(const uint8_t *bytes)
     return c;
 }
 
-void second_write_card(uint8_t *bytes, const struct card *c)
+void reference_write_card(uint8_t *bytes, const struct card *c)
 {
-    uint8_t *at = put_head(bytes, second_card_bytes(c->version), c->version);
+    uint8_t *at = put_head(bytes, reference_card_bytes(c->version), c->version);
     at = put_bytes(at, c->id, sizeof c->id);
     at = put(at, 2, c->B);
     at = put(at, 4, c->d);
@@ -103,7 +103,7 @@ void second_write_card(uint8_t *bytes, const struct card *c)
 struct message read_message(const uint8_t *bytes)
 {
     struct message m = {.version = version_in(bytes)};
-    const uint8_t *at = behind_head(bytes);
+    const uint8_t *at = after_head(bytes);
     take_bytes(&at, m.id, sizeof m.id);
     m.i = take(&at, 4);
     m.B = take(&at, 2);
@@ -134,7 +134,7 @@ void write_totals(uint8_t *bytes, struct totals totals)
     put(put(bytes, 8, totals.turns), 8, totals.hashes);
 }
 
-void second_add_totals(struct totals *whole, struct totals part)
+void reference_add_totals(struct totals *whole, struct totals part)
 {
     whole->turns += part.turns;
     whole->hashes += part.hashes;
@@ -183,14 +183,14 @@ int message_fits(const struct message *m)
 /* "Where a card comes to have several sizes, each passes the first length check; the wrong one for its version is then 2" */
 int card_sized(size_t length)
 {
-    return length == second_card_bytes(1) || length == second_card_bytes(3);
+    return length == reference_card_bytes(1) || length == reference_card_bytes(3);
 }
 
 uint64_t card_fault(const uint8_t *card, size_t length)
 {
     uint64_t version = version_in(card);
-    if (!version_fits(version) || length != second_card_bytes(version) || !head_fits(card, length, version))
+    if (!version_fits(version) || length != reference_card_bytes(version) || !head_fits(card, length, version))
         return LEGBARO_WRONG_HEADER;
-    struct card c = second_read_card(card);
+    struct card c = reference_read_card(card);
     return card_fits(&c) ? LEGBARO_OK : LEGBARO_OUT_OF_LIMITS;
 }

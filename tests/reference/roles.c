@@ -1,12 +1,12 @@
-/* The second implementation's rights of roles. See second_parts.h. */
+/* The reference implementation's rights of roles. See parts.h. */
 #include "parts.h"
 
 enum { SURVEYOR = 1, PLANNER = 2, MANAGER = 3 };
 
 /* "Role 1, surveyor, may append and load, or ask these; role 2, planner, everything" */
-int may_change(uint64_t role, enum edit_kind kind)
+int may_change(uint64_t role, enum change_kind kind)
 {
-    return role == PLANNER || (role == SURVEYOR && (kind == EDIT_APPEND || kind == EDIT_LOAD));
+    return role == PLANNER || (role == SURVEYOR && (kind == CHANGE_APPEND || kind == CHANGE_LOAD));
 }
 
 int may_settle(uint64_t role)

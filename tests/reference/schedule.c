@@ -1,4 +1,4 @@
-/* The second implementation's calendar and windows. See second_parts.h. */
+/* The reference implementation's calendar and windows. See parts.h. */
 #include "parts.h"
 
 #include <string.h>
@@ -26,7 +26,7 @@ int when_fits(const struct when *when)
 }
 
 /* 1 January 2000 was a Saturday; from then on the days are counted one by one. */
-unsigned second_weekday(const struct when *when)
+unsigned reference_weekday(const struct when *when)
 {
     uint64_t days = SATURDAY + when->day - 1;
     for (uint64_t year = FIRST_YEAR; year < when->year; year++)
@@ -46,7 +46,7 @@ static void read_window(const uint8_t *plan, unsigned weekday, uint64_t *start, 
 }
 
 /* "Plan minutes above 1,439 are code 3" */
-int plan_fits(const uint8_t *plan)
+int schedule_fits(const uint8_t *plan)
 {
     for (unsigned weekday = 0; weekday < WEEKDAYS; weekday++) {
         uint64_t start, end;
@@ -76,7 +76,7 @@ static void open_windows(const uint8_t *plan, uint8_t *allowed)
 uint64_t wait_for(const uint8_t *plan, const struct when *when)
 {
     uint8_t allowed[WEEK];
-    uint64_t now = second_weekday(when) * DAY + when->minute, wait = 0;
+    uint64_t now = reference_weekday(when) * DAY + when->minute, wait = 0;
     open_windows(plan, allowed);
     while (wait < WEEK && !allowed[(now + wait) % WEEK])
         wait++;
@@ -84,7 +84,7 @@ uint64_t wait_for(const uint8_t *plan, const struct when *when)
 }
 
 /* "before everything else, a date or minute outside these (16)" */
-uint64_t second_wait(const uint8_t *plan, size_t plan_length,
+uint64_t reference_wait(const uint8_t *plan, size_t plan_length,
                      uint64_t year, uint64_t month, uint64_t day, uint64_t minute)
 {
     struct when when = {year, month, day, minute};
@@ -92,5 +92,5 @@ uint64_t second_wait(const uint8_t *plan, size_t plan_length,
         return LEGBARO_BAD_TIME;
     if (plan_length != PLAN_BYTES)
         return LEGBARO_WRONG_LENGTH;
-    return plan_fits(plan) ? LEGBARO_OK + 256 * wait_for(plan, &when) : LEGBARO_OUT_OF_LIMITS;
+    return schedule_fits(plan) ? LEGBARO_OK + 256 * wait_for(plan, &when) : LEGBARO_OUT_OF_LIMITS;
 }

@@ -1,4 +1,4 @@
-/* The second implementation's keys, tokens and token records. See second_parts.h. */
+/* The reference implementation's keys, tokens and token records. See parts.h. */
 #define OPENSSL_SUPPRESS_DEPRECATED /* for SHA256_* and HMAC_* */
 #include "parts.h"
 
@@ -27,7 +27,7 @@ void must(int done)
     }
 }
 
-void second_start(void)
+void reference_start(void)
 {
     permutation_start();
     sealing = EVP_CIPHER_CTX_new();
@@ -40,7 +40,7 @@ void second_start(void)
     must(EVP_DecryptInit_ex(opening, EVP_chacha20_poly1305(), NULL, NULL, NULL));
 }
 
-void second_end(void)
+void reference_end(void)
 {
     permutation_end();
     EVP_CIPHER_CTX_free(sealing);
@@ -175,7 +175,7 @@ void seal(uint8_t *record, uint64_t version, uint64_t ctr, uint64_t i, const uin
 int open_record(const uint8_t *record, const struct card *c, uint64_t i, uint8_t *token)
 {
     uint8_t nonce[NONCE_BYTES], tag[TAG_BYTES];
-    const uint8_t *at = behind_head(record);
+    const uint8_t *at = after_head(record);
     int length;
     if (!head_fits(record, LEGBARO_RECORD_BYTES, c->version) || take(&at, 8) != c->ctr || take(&at, 4) != i)
         return 0;
@@ -188,13 +188,13 @@ int open_record(const uint8_t *record, const struct card *c, uint64_t i, uint8_t
     return EVP_DecryptFinal_ex(opening, token + length, &length) > 0;
 }
 
-int second_token(const uint8_t *master, const struct card *c, const uint8_t *table, uint64_t i, uint8_t *token)
+int reference_token(const uint8_t *master, const struct card *c, const uint8_t *table, uint64_t i, uint8_t *token)
 {
     use_keys(master, c->id);
     return open_record(table + (i - 1) * LEGBARO_RECORD_BYTES, c, i, token);
 }
 
-struct totals second_fresh_records(const uint8_t *master, const struct card *c, const uint8_t *blocks, const uint8_t *marks,
+struct totals reference_fresh_records(const uint8_t *master, const struct card *c, const uint8_t *blocks, const uint8_t *marks,
                                    uint64_t first, uint64_t last, uint8_t *table)
 {
     struct totals totals = {0, 0};
@@ -204,7 +204,7 @@ struct totals second_fresh_records(const uint8_t *master, const struct card *c, 
     for (uint64_t i = first; i <= last; i++) {
         draw_key_of(i, k);
         hash_key_of(i, hash_key);
-        second_add_totals(&totals, digest(k, hash_key, &shape, blocks, marks, token));
+        reference_add_totals(&totals, digest(k, hash_key, &shape, blocks, marks, token));
         seal(record_at(table, i), c->version, c->ctr, i, token);
     }
     return totals;

@@ -26,10 +26,10 @@ struct book book_start(const struct call *set_up)
 {
     struct book book = {
         .numbers = {.version = set_up->version, .B = set_up->B, .d = set_up->d, .r = set_up->r, .t = set_up->t, .n = set_up->n, .next = 1}};
-    memcpy(book.key, set_up->lent[MASTER].bytes, sizeof book.key);
-    memcpy(book.numbers.id, set_up->lent[ID].bytes, sizeof book.numbers.id);
-    book.blocks = resized(NULL, set_up->lent[BLOCKS].length);
-    memcpy(book.blocks, set_up->lent[BLOCKS].bytes, set_up->lent[BLOCKS].length);
+    memcpy(book.key, set_up->args[MASTER].bytes, sizeof book.key);
+    memcpy(book.numbers.id, set_up->args[ID].bytes, sizeof book.numbers.id);
+    book.blocks = resized(NULL, set_up->args[BLOCKS].length);
+    memcpy(book.blocks, set_up->args[BLOCKS].bytes, set_up->args[BLOCKS].length);
     book.marks = resized(NULL, set_up->n);
     memset(book.marks, LEGBARO_LIVE, set_up->n);
     book.spent = resized(NULL, table_bytes(&book));
@@ -46,14 +46,14 @@ void book_end(struct book *book)
 }
 
 /* Where block m lies. */
-static uint8_t *place_of(const struct book *book, uint64_t m)
+static uint8_t *block_at(const struct book *book, uint64_t m)
 {
     return book->blocks + (m - 1) * book->numbers.B;
 }
 
 const uint8_t *book_block(const struct book *book, uint64_t m)
 {
-    return place_of(book, m);
+    return block_at(book, m);
 }
 
 const uint8_t *book_mark(const struct book *book, uint64_t m)
@@ -63,14 +63,14 @@ const uint8_t *book_mark(const struct book *book, uint64_t m)
 
 void book_card(const struct book *book, uint8_t *card)
 {
-    second_write_card(card, &book->numbers);
+    reference_write_card(card, &book->numbers);
 }
 
 /* "Its table is the spent records 1 to next - 1, then the fresh records next to t." */
 void book_table(const struct book *book, uint8_t *table)
 {
     memcpy(table, book->spent, (book->numbers.next - 1) * LEGBARO_RECORD_BYTES);
-    second_fresh_records(book->key, &book->numbers, book->blocks, book->marks, book->numbers.next, book->numbers.t, table);
+    reference_fresh_records(book->key, &book->numbers, book->blocks, book->marks, book->numbers.next, book->numbers.t, table);
 }
 
 /* The book as a commit would leave it, on the same room: "makes its ask's table, and its counter and count the standing ones" */
@@ -93,14 +93,14 @@ void book_asked_table(const struct book *book, uint8_t *table)
 }
 
 /* The edit that a change makes, asked or in one step. */
-static struct edit edit_of(const struct call *call)
+static struct change change_of(const struct call *call)
 {
     enum kind kind = unasked(call->kind);
-    static const enum edit_kind kinds[] = {
-        [UPDATE] = EDIT_UPDATE, [DELETE] = EDIT_DELETE, [APPEND] = EDIT_APPEND, [LOAD] = EDIT_LOAD, [BATCH] = EDIT_BATCH};
-    const struct buffer *old = &call->lent[OLD], *mark = &call->lent[MARKS], *items = &call->lent[ITEMS];
-    const struct buffer *added = &call->lent[kind == LOAD ? BLOCKS : NEW];
-    struct edit edit = {.kind = kinds[kind],
+    static const enum change_kind kinds[] = {
+        [UPDATE] = CHANGE_UPDATE, [DELETE] = CHANGE_DELETE, [APPEND] = CHANGE_APPEND, [LOAD] = CHANGE_LOAD, [BATCH] = CHANGE_BATCH};
+    const struct buffer *old = &call->args[OLD], *mark = &call->args[MARKS], *items = &call->args[ITEMS];
+    const struct buffer *added = &call->args[kind == LOAD ? BLOCKS : NEW];
+    struct change change = {.kind = kinds[kind],
                         .m = call->m,
                         .old_block = old->bytes,
                         .old_length = old->length,
@@ -110,21 +110,21 @@ static struct edit edit_of(const struct call *call)
                         .new_length = added->length,
                         .items = items->bytes,
                         .items_length = items->length};
-    return edit;
+    return change;
 }
 
 /* The cards of a pooled judging: "the other cards in their places, as lent", and the book's own in its place, where nothing is read. */
 static struct buffer pooled_cards(const struct book *book, const struct call *call)
 {
-    struct buffer cards = buffer_copy(&call->lent[CARDS]);
-    book_card(book, cards.bytes + call->place);
+    struct buffer cards = buffer_copy(&call->args[CARDS]);
+    book_card(book, cards.bytes + call->card_offset);
     return cards;
 }
 
-static uint64_t pool_turned_away(const struct book *book, const struct call *call)
+static uint64_t pool_refusal(const struct book *book, const struct call *call)
 {
     struct buffer cards = pooled_cards(book, call);
-    uint64_t fault = second_pool_fault(call->role, call->lent[MASTER].length, cards.bytes, cards.length);
+    uint64_t fault = reference_pool_fault(call->role, call->args[MASTER].length, cards.bytes, cards.length);
     buffer_free(&cards);
     return fault;
 }
@@ -133,37 +133,37 @@ static uint64_t pool_verdict(const struct book *book, const struct call *call)
 {
     struct buffer cards = pooled_cards(book, call);
     uint64_t verdict =
-        second_pool_verdict(book->key, cards.bytes, cards.length, call->lent[REPLY].bytes, call->lent[REPLY].length);
+        reference_pool_verdict(book->key, cards.bytes, cards.length, call->args[REPLY].bytes, call->args[REPLY].length);
     buffer_free(&cards);
     return verdict;
 }
 
 /* "Turned away", read with the book's card and table and the call's other arguments; "7 never comes up". */
-static uint64_t turned_away(const struct book *book, const struct call *call)
+static uint64_t refusal(const struct book *book, const struct call *call)
 {
-    struct edit edit;
+    struct change change;
     struct when when = {call->year, call->month, call->day, call->minute};
     uint8_t card[LEGBARO_TWO_STEP_CARD_BYTES];
-    size_t master_length = call->lent[MASTER].length, totals_length = call->lent[TOTALS].length;
-    size_t size = second_card_bytes(book->numbers.version);
+    size_t master_length = call->args[MASTER].length, totals_length = call->args[TOTALS].length;
+    size_t size = reference_card_bytes(book->numbers.version);
     book_card(book, card);
     switch (call->kind) {
     case DRAW:
-        return second_draw_fault(call->role, master_length, card, size, call->lent[MESSAGE].length, call->lent[PLAN].bytes,
-                                 call->lent[PLAN].length, &when);
+        return reference_draw_fault(call->role, master_length, card, size, call->args[MESSAGE].length, call->args[PLAN].bytes,
+                                 call->args[PLAN].length, &when);
     case JUDGE:
-        return second_judge_fault(call->role, master_length, card, size);
+        return reference_judge_fault(call->role, master_length, card, size);
     case JUDGE_POOL:
-        return pool_turned_away(book, call);
+        return pool_refusal(book, call);
     case COMMIT:
     case DROP:
-        return second_settle_fault(call->role, card, size);
+        return reference_settle_fault(call->role, card, size);
     default:
-        edit = edit_of(call);
+        change = change_of(call);
         if (is_ask(call->kind))
-            return second_ask_fault(call->role, &edit, master_length, card, size, table_bytes(book), call->lent[SECOND].length,
+            return reference_ask_fault(call->role, &change, master_length, card, size, table_bytes(book), call->args[SECOND].length,
                                     totals_length);
-        return second_change_fault(call->role, &edit, master_length, card, size, table_bytes(book), totals_length);
+        return reference_change_fault(call->role, &change, master_length, card, size, table_bytes(book), totals_length);
     }
 }
 
@@ -182,21 +182,21 @@ static void add_blocks(struct book *book, const struct buffer *added)
 /* "Update puts the new block under its number, delete puts B zero bytes there" */
 static void put_block(struct book *book, uint64_t m, const uint8_t *block)
 {
-    memcpy(place_of(book, m), block, book->numbers.B);
+    memcpy(block_at(book, m), block, book->numbers.B);
     book->marks[m - 1] = LEGBARO_LIVE;
 }
 
 static void put_zeros(struct book *book, uint64_t m)
 {
-    memset(place_of(book, m), 0, book->numbers.B);
+    memset(block_at(book, m), 0, book->numbers.B);
     book->marks[m - 1] = LEGBARO_DELETED;
 }
 
 /* A batch, "each a kind byte (1 update, 2 delete)" */
 static void take_items(struct book *book, const struct buffer *items)
 {
-    for (size_t e = 0; e < items->length / second_item_bytes(&book->numbers); e++) {
-        struct item item = second_item(items->bytes, &book->numbers, e);
+    for (size_t e = 0; e < items->length / reference_item_bytes(&book->numbers); e++) {
+        struct item item = reference_item(items->bytes, &book->numbers, e);
         if (item.kind == 1)
             put_block(book, item.m, item.new_block);
         else
@@ -209,13 +209,13 @@ static void change_blocks(struct book *book, const struct call *call)
 {
     enum kind kind = unasked(call->kind);
     if (kind == UPDATE)
-        put_block(book, call->m, call->lent[NEW].bytes);
+        put_block(book, call->m, call->args[NEW].bytes);
     else if (kind == DELETE)
         put_zeros(book, call->m);
     else if (kind == BATCH)
-        take_items(book, &call->lent[ITEMS]);
+        take_items(book, &call->args[ITEMS]);
     else
-        add_blocks(book, &call->lent[kind == LOAD ? BLOCKS : NEW]);
+        add_blocks(book, &call->args[kind == LOAD ? BLOCKS : NEW]);
 }
 
 /* "Every ask takes the last issued plus 1, even after a drop"; "an asked change joins the current blocks at its commit" */
@@ -264,14 +264,14 @@ static void take_change(struct book *book, const struct call *call)
 static void take_draw(struct book *book)
 {
     struct card *numbers = &book->numbers;
-    second_fresh_records(book->key, numbers, book->blocks, book->marks, numbers->next, numbers->next, book->spent);
+    reference_fresh_records(book->key, numbers, book->blocks, book->marks, numbers->next, numbers->next, book->spent);
     numbers->open = numbers->next;
     numbers->next++;
 }
 
 uint64_t book_answer(struct book *book, const struct call *call)
 {
-    uint64_t answer = turned_away(book, call);
+    uint64_t answer = refusal(book, call);
     if (answer != LEGBARO_OK)
         return answer;
     switch (call->kind) {
@@ -279,7 +279,7 @@ uint64_t book_answer(struct book *book, const struct call *call)
         take_draw(book);
         break;
     case JUDGE:
-        answer = second_verdict(book->key, &book->numbers, call->lent[REPLY].bytes, call->lent[REPLY].length);
+        answer = reference_verdict(book->key, &book->numbers, call->args[REPLY].bytes, call->args[REPLY].length);
         book->numbers.open = 0;
         break;
     case JUDGE_POOL:

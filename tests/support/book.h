@@ -29,7 +29,7 @@ uint64_t book_answer(struct book *book, const struct call *call);
 const uint8_t *book_block(const struct book *book, uint64_t m);
 const uint8_t *book_mark(const struct book *book, uint64_t m);
 
-/* Writes the book's card, second_card_bytes of its version; its table, t * LEGBARO_RECORD_BYTES; and where something is pending the table
+/* Writes the book's card, reference_card_bytes of its version; its table, t * LEGBARO_RECORD_BYTES; and where something is pending the table
  * that stands after a commit. */
 void book_card(const struct book *book, uint8_t *card);
 void book_table(const struct book *book, uint8_t *table);

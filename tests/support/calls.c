@@ -88,7 +88,7 @@ enum kind unasked(enum kind ask)
 struct call call_sheet(uint64_t B, uint64_t d, uint64_t r, uint64_t t, uint64_t n, uint64_t m)
 {
     struct call call = {.kind = SHEET, .B = B, .d = d, .r = r, .t = t, .n = n, .m = m};
-    call.lent[OUT] = buffer_blank(LEGBARO_SHEET_BYTES);
+    call.args[OUT] = buffer_blank(LEGBARO_SHEET_BYTES);
     return call;
 }
 
@@ -96,7 +96,7 @@ struct call call_copy(const struct call *call)
 {
     struct call other = *call;
     for (int argument = 0; argument < ARGUMENTS; argument++)
-        other.lent[argument] = buffer_copy(&call->lent[argument]);
+        other.args[argument] = buffer_copy(&call->args[argument]);
     return other;
 }
 
@@ -104,31 +104,31 @@ struct call call_asked(const struct call *change)
 {
     struct call ask = call_copy(change);
     ask.kind = asked(change->kind);
-    ask.lent[SECOND] = buffer_blank(change->lent[TABLE].length);
+    ask.args[SECOND] = buffer_blank(change->args[TABLE].length);
     return ask;
 }
 
 void call_free(struct call *call)
 {
     for (int argument = 0; argument < ARGUMENTS; argument++)
-        buffer_free(&call->lent[argument]);
+        buffer_free(&call->args[argument]);
 }
 
 uint64_t call_library(struct call *call)
 {
-    RUN(legbaro, )
+    DISPATCH(legbaro, )
 }
 
-uint64_t call_second(struct call *call)
+uint64_t call_reference(struct call *call)
 {
-    RUN(second, )
+    DISPATCH(reference, )
 }
 
-/* What is expected of one buffer after a call: `ours` after the library, `theirs` after the second implementation, `before`. */
+/* What is expected of one buffer after a call: `ours` after the library, `theirs` after the reference implementation, `before`. */
 static void compare_buffer(enum kind kind, enum argument argument, int written, const struct buffer *ours, const struct buffer *theirs,
                            const struct buffer *before)
 {
-    expect(buffer_same(ours, theirs), "%s: the second implementation's %s", kinds[kind].name, arguments[argument]);
+    expect(buffer_same(ours, theirs), "%s: the reference implementation's %s", kinds[kind].name, arguments[argument]);
     expect(written || buffer_same(ours, before), "%s: the %s as it was", kinds[kind].name, arguments[argument]);
     expect(buffer_guarded(ours), "%s: nothing written around the %s", kinds[kind].name, arguments[argument]);
 }
@@ -137,7 +137,7 @@ uint64_t call_compare_by(uint64_t (*run)(struct call *), struct call *call)
 {
     struct call before = call_copy(call), other = call_copy(call);
     uint64_t number = run(call);
-    uint64_t expected = call_second(&other);
+    uint64_t expected = call_reference(&other);
     int refused = LEGBARO_CODE(number) != LEGBARO_OK && LEGBARO_CODE(number) != LEGBARO_REJECTED;
     if (LEGBARO_CODE(number) <= LAST_CODE)
         counts[call->kind][LEGBARO_CODE(number)]++;
@@ -146,7 +146,7 @@ uint64_t call_compare_by(uint64_t (*run)(struct call *), struct call *call)
     for (int argument = 0; argument < ARGUMENTS; argument++)
         if (call_takes(call->kind, argument)) {
             int written = !refused && (kinds[call->kind].writes & BIT(argument));
-            compare_buffer(call->kind, argument, written, &call->lent[argument], &other.lent[argument], &before.lent[argument]);
+            compare_buffer(call->kind, argument, written, &call->args[argument], &other.args[argument], &before.args[argument]);
         }
     call_free(&before);
     call_free(&other);
@@ -160,7 +160,7 @@ uint64_t call_compare(struct call *call)
 
 struct totals call_totals(const struct call *call)
 {
-    const struct buffer *totals = &call->lent[TOTALS];
+    const struct buffer *totals = &call->args[TOTALS];
     return (struct totals){buffer_number(totals, LEGBARO_TOTALS_TURNS, 8), buffer_number(totals, LEGBARO_TOTALS_HASHES, 8)};
 }
 
@@ -193,7 +193,7 @@ void call_alike(struct call *call, struct call *other)
     call_expect(call, LEGBARO_OK, "accepted");
     call_expect(other, LEGBARO_OK, "accepted");
     for (size_t i = 0; i < sizeof written / sizeof *written; i++)
-        expect(buffer_same(&call->lent[written[i]], &other->lent[written[i]]), "%s: buffer %d as by %s", call_name(call->kind),
+        expect(buffer_same(&call->args[written[i]], &other->args[written[i]]), "%s: buffer %d as by %s", call_name(call->kind),
                (int)written[i], call_name(other->kind));
     call_free(call);
     call_free(other);

@@ -1,4 +1,4 @@
-/* One call as a value: which it is, its numbers and the buffers lent to it. The library and the second implementation can run it. */
+/* One call as a value: which it is, its numbers and the buffers lent to it. The library and the reference implementation can run it. */
 #ifndef CALLS_H
 #define CALLS_H
 
@@ -69,8 +69,8 @@ struct call {
                                           blocks n and the parity blocks r */
     uint64_t m;                        /* the block number of an update or a deletion, asked too; the damaged rows of a sheet */
     uint64_t year, month, day, minute; /* of a draw and of a wait */
-    size_t place;                      /* in a list, where the file's own card lies among the cards of a pooled judging */
-    struct buffer lent[ARGUMENTS];
+    size_t card_offset;                      /* in a list, where the file's own card lies among the cards of a pooled judging */
+    struct buffer args[ARGUMENTS];
 };
 
 /* The call's name, for what is printed. */
@@ -98,9 +98,9 @@ void call_free(struct call *call);
 
 /* Runs the call on its buffers and answers the number that it returns. */
 uint64_t call_library(struct call *call);
-uint64_t call_second(struct call *call);
+uint64_t call_reference(struct call *call);
 
-/* Runs the call on the library, and a copy of it on the second implementation. Expects the same number and the same bytes in every buffer;
+/* Runs the call on the library, and a copy of it on the reference implementation. Expects the same number and the same bytes in every buffer;
  * buffers that the call does not write, and in a refusal all of them, to be as they were; guard bytes too. Answers the number.
  * `call_compare_by` runs the call by what it is given in the library's place. */
 uint64_t call_compare(struct call *call);

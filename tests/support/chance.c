@@ -42,7 +42,7 @@ void chance_spare(void)
     sparing = 1;
 }
 
-uint64_t tried_behind(uint64_t i, uint64_t step)
+uint64_t tried_after(uint64_t i, uint64_t step)
 {
     return i + 1 + (sparing ? chance_below(2 * step - 1) : 0);
 }

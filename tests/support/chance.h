@@ -15,6 +15,6 @@ void chance_bytes(uint8_t *bytes, size_t length);
 
 /* Which of many numbered cases is tried behind case i: the next one, or after `chance_spare` one further on, `step` on the average. */
 void chance_spare(void);
-uint64_t tried_behind(uint64_t i, uint64_t step);
+uint64_t tried_after(uint64_t i, uint64_t step);
 
 #endif

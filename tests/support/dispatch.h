@@ -3,67 +3,67 @@
 #define DISPATCH_H
 
 /* A buffer and a time as C passes them. */
-#define LENT(argument) call->lent[argument].bytes, call->lent[argument].length
-#define LENT_TIME call->year, call->month, call->day, call->minute
+#define ARG(argument) call->args[argument].bytes, call->args[argument].length
+#define ARG_TIME call->year, call->month, call->day, call->minute
 
-#define RUN(before, behind)                                                                                                    \
+#define DISPATCH(prefix, suffix)                                                                                                    \
     switch (call->kind) {                                                                                                      \
     case SET_UP:                                                                                                               \
-        return before##_set_up##behind(LENT(MASTER), LENT(ID), call->version, call->B, call->d, call->r, call->t, call->n,     \
-                                       LENT(BLOCKS), LENT(CARD), LENT(TABLE), LENT(TOTALS));                                   \
+        return prefix##_set_up##suffix(ARG(MASTER), ARG(ID), call->version, call->B, call->d, call->r, call->t, call->n,     \
+                                       ARG(BLOCKS), ARG(CARD), ARG(TABLE), ARG(TOTALS));                                   \
     case UPDATE:                                                                                                               \
-        return before##_update##behind(call->role, LENT(MASTER), LENT(CARD), LENT(TABLE), call->m, LENT(OLD), LENT(MARKS),     \
-                                       LENT(NEW), LENT(TOTALS));                                                               \
+        return prefix##_update##suffix(call->role, ARG(MASTER), ARG(CARD), ARG(TABLE), call->m, ARG(OLD), ARG(MARKS),     \
+                                       ARG(NEW), ARG(TOTALS));                                                               \
     case DELETE:                                                                                                               \
-        return before##_delete##behind(call->role, LENT(MASTER), LENT(CARD), LENT(TABLE), call->m, LENT(OLD), LENT(MARKS),     \
-                                       LENT(TOTALS));                                                                          \
+        return prefix##_delete##suffix(call->role, ARG(MASTER), ARG(CARD), ARG(TABLE), call->m, ARG(OLD), ARG(MARKS),     \
+                                       ARG(TOTALS));                                                                          \
     case APPEND:                                                                                                               \
-        return before##_append##behind(call->role, LENT(MASTER), LENT(CARD), LENT(TABLE), LENT(NEW), LENT(TOTALS));            \
+        return prefix##_append##suffix(call->role, ARG(MASTER), ARG(CARD), ARG(TABLE), ARG(NEW), ARG(TOTALS));            \
     case LOAD:                                                                                                                 \
-        return before##_load##behind(call->role, LENT(MASTER), LENT(CARD), LENT(TABLE), LENT(BLOCKS), LENT(TOTALS));           \
+        return prefix##_load##suffix(call->role, ARG(MASTER), ARG(CARD), ARG(TABLE), ARG(BLOCKS), ARG(TOTALS));           \
     case BATCH:                                                                                                                \
-        return before##_batch##behind(call->role, LENT(MASTER), LENT(CARD), LENT(TABLE), LENT(ITEMS), LENT(TOTALS));           \
+        return prefix##_batch##suffix(call->role, ARG(MASTER), ARG(CARD), ARG(TABLE), ARG(ITEMS), ARG(TOTALS));           \
     case ASK_UPDATE:                                                                                                           \
-        return before##_ask_update##behind(call->role, LENT(MASTER), LENT(CARD), LENT(TABLE), LENT(SECOND), call->m,           \
-                                           LENT(OLD), LENT(MARKS), LENT(NEW), LENT(TOTALS));                                   \
+        return prefix##_ask_update##suffix(call->role, ARG(MASTER), ARG(CARD), ARG(TABLE), ARG(SECOND), call->m,           \
+                                           ARG(OLD), ARG(MARKS), ARG(NEW), ARG(TOTALS));                                   \
     case ASK_DELETE:                                                                                                           \
-        return before##_ask_delete##behind(call->role, LENT(MASTER), LENT(CARD), LENT(TABLE), LENT(SECOND), call->m,           \
-                                           LENT(OLD), LENT(MARKS), LENT(TOTALS));                                              \
+        return prefix##_ask_delete##suffix(call->role, ARG(MASTER), ARG(CARD), ARG(TABLE), ARG(SECOND), call->m,           \
+                                           ARG(OLD), ARG(MARKS), ARG(TOTALS));                                              \
     case ASK_APPEND:                                                                                                           \
-        return before##_ask_append##behind(call->role, LENT(MASTER), LENT(CARD), LENT(TABLE), LENT(SECOND), LENT(NEW),         \
-                                           LENT(TOTALS));                                                                      \
+        return prefix##_ask_append##suffix(call->role, ARG(MASTER), ARG(CARD), ARG(TABLE), ARG(SECOND), ARG(NEW),         \
+                                           ARG(TOTALS));                                                                      \
     case ASK_LOAD:                                                                                                             \
-        return before##_ask_load##behind(call->role, LENT(MASTER), LENT(CARD), LENT(TABLE), LENT(SECOND), LENT(BLOCKS),        \
-                                         LENT(TOTALS));                                                                        \
+        return prefix##_ask_load##suffix(call->role, ARG(MASTER), ARG(CARD), ARG(TABLE), ARG(SECOND), ARG(BLOCKS),        \
+                                         ARG(TOTALS));                                                                        \
     case ASK_BATCH:                                                                                                            \
-        return before##_ask_batch##behind(call->role, LENT(MASTER), LENT(CARD), LENT(TABLE), LENT(SECOND), LENT(ITEMS),        \
-                                          LENT(TOTALS));                                                                       \
+        return prefix##_ask_batch##suffix(call->role, ARG(MASTER), ARG(CARD), ARG(TABLE), ARG(SECOND), ARG(ITEMS),        \
+                                          ARG(TOTALS));                                                                       \
     case COMMIT:                                                                                                               \
-        return before##_commit##behind(call->role, LENT(CARD));                                                                \
+        return prefix##_commit##suffix(call->role, ARG(CARD));                                                                \
     case DROP:                                                                                                                 \
-        return before##_drop##behind(call->role, LENT(CARD));                                                                  \
+        return prefix##_drop##suffix(call->role, ARG(CARD));                                                                  \
     case DRAW:                                                                                                                 \
-        return before##_draw##behind(call->role, LENT(MASTER), LENT(CARD), LENT(MESSAGE), LENT(PLAN), LENT_TIME);              \
+        return prefix##_draw##suffix(call->role, ARG(MASTER), ARG(CARD), ARG(MESSAGE), ARG(PLAN), ARG_TIME);              \
     case JUDGE:                                                                                                                \
-        return before##_judge##behind(call->role, LENT(MASTER), LENT(CARD), LENT(REPLY));                                      \
+        return prefix##_judge##suffix(call->role, ARG(MASTER), ARG(CARD), ARG(REPLY));                                      \
     case CAUSE:                                                                                                                \
-        return before##_cause##behind(call->role, LENT(MASTER), LENT(CARD), LENT(REPLY));                                      \
+        return prefix##_cause##suffix(call->role, ARG(MASTER), ARG(CARD), ARG(REPLY));                                      \
     case JUDGE_POOL:                                                                                                           \
-        return before##_judge_pool##behind(call->role, LENT(MASTER), LENT(CARDS), LENT(REPLY));                                \
+        return prefix##_judge_pool##suffix(call->role, ARG(MASTER), ARG(CARDS), ARG(REPLY));                                \
     case PROVE:                                                                                                                \
-        return before##_prove##behind(LENT(MESSAGE), LENT(BLOCKS), LENT(MARKS), LENT(TABLE), LENT(REPLY), LENT(TOTALS));       \
+        return prefix##_prove##suffix(ARG(MESSAGE), ARG(BLOCKS), ARG(MARKS), ARG(TABLE), ARG(REPLY), ARG(TOTALS));       \
     case POOL:                                                                                                                 \
-        return before##_pool##behind(LENT(REPLIES), LENT(POOLED));                                                             \
+        return prefix##_pool##suffix(ARG(REPLIES), ARG(POOLED));                                                             \
     case WAIT:                                                                                                                 \
-        return before##_wait##behind(LENT(PLAN), LENT_TIME);                                                                   \
+        return prefix##_wait##suffix(ARG(PLAN), ARG_TIME);                                                                   \
     case SHEET:                                                                                                                \
-        return before##_sheet##behind(call->B, call->d, call->r, call->t, call->n, call->m, LENT(OUT));                        \
+        return prefix##_sheet##suffix(call->B, call->d, call->r, call->t, call->n, call->m, ARG(OUT));                        \
     case PARITY_ENCODE:                                                                                                        \
-        return before##_parity_encode##behind(call->B, call->n, call->r, LENT(BLOCKS), LENT(OUT));                             \
+        return prefix##_parity_encode##suffix(call->B, call->n, call->r, ARG(BLOCKS), ARG(OUT));                             \
     case PARITY_REBUILD:                                                                                                       \
-        return before##_parity_rebuild##behind(call->B, call->n, call->r, LENT(BLOCKS), LENT(LOST), LENT(OUT));                \
+        return prefix##_parity_rebuild##suffix(call->B, call->n, call->r, ARG(BLOCKS), ARG(LOST), ARG(OUT));                \
     default:                                                                                                                   \
-        return before##_positions##behind(call->r, call->d, call->n);                                                          \
+        return prefix##_positions##suffix(call->r, call->d, call->n);                                                          \
     }
 
 #endif

@@ -10,11 +10,11 @@ struct when any_time(void);
 void call_at(struct call *call, const struct when *when);
 
 /* A plan without a window; a plan with any windows; gives a weekday, 0 for Monday, a window. */
-struct buffer plan_blank(void);
-struct buffer any_plan(void);
-void plan_window(struct buffer *plan, unsigned weekday, uint64_t start, uint64_t end);
+struct buffer schedule_blank(void);
+struct buffer any_schedule(void);
+void schedule_window(struct buffer *plan, unsigned weekday, uint64_t start, uint64_t end);
 
 /* Gives the day of a time any window that has the time in it. */
-void plan_allow(struct buffer *plan, const struct when *when);
+void schedule_allow(struct buffer *plan, const struct when *when);
 
 #endif

@@ -1,4 +1,4 @@
-/* See groups.h. */
+/* See expect.h. */
 #include "expect.h"
 
 #include <stdarg.h>
@@ -10,7 +10,7 @@ static char group[NAME];
 static unsigned long checks, failures;
 static unsigned passed, failed;
 
-void group_begin(const char *name, ...)
+void test_begin(const char *name, ...)
 {
     va_list words;
     va_start(words, name);
@@ -35,7 +35,7 @@ void expect(int holds, const char *what, ...)
     va_end(words);
 }
 
-void group_end(void)
+void test_end(void)
 {
     if (failures) {
         failed++;
@@ -47,7 +47,7 @@ void group_end(void)
     fflush(stdout);
 }
 
-int groups_passed(void)
+int tests_passed(void)
 {
     printf("%u passed, %u failed\n", passed, failed);
     return failed == 0;

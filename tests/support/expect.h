@@ -3,13 +3,13 @@
 #define EXPECT_H
 
 /* Starts and ends a group; its end prints a line with its name and how much was checked. */
-void group_begin(const char *name, ...);
-void group_end(void);
+void test_begin(const char *name, ...);
+void test_end(void);
 
 /* Counts one check of the group. Where it does not hold, says what was expected: the first few times in a group. */
 void expect(int holds, const char *what, ...);
 
 /* Prints 'N passed, M failed', the number of groups, and answers whether none failed. */
-int groups_passed(void);
+int tests_passed(void);
 
 #endif

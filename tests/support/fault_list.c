@@ -65,20 +65,20 @@ const struct field fault_fields[TARGETS] = {
 #define ONE_STEP (IN_VERSION(LEGBARO_WITHOUT_MARKS) | IN_VERSION(LEGBARO_WITH_MARKS))
 #define MARKED (IN_VERSION(LEGBARO_WITH_MARKS) | TWO_STEPS)
 
-#define TOO_SHORT(kinds, place, argument) {kinds, place, LENGTH_OF(argument), NO_BYTES}, {kinds, place, LENGTH_OF(argument), ONE_LESS}
-#define WRONG_LENGTH(kinds, place, argument) TOO_SHORT(kinds, place, argument), {kinds, place, LENGTH_OF(argument), ONE_MORE}
-#define IN_EACH_CARD(place, target, value)                                                                                     \
-    {IN(JUDGE_POOL), place, OF_CARD(0, target), value}, {IN(JUDGE_POOL), place, OF_CARD(1, target), value},                   \
-        {IN(JUDGE_POOL), place, OF_CARD(2, target), value}
+#define TOO_SHORT(kinds, check, argument) {kinds, check, LENGTH_OF(argument), NO_BYTES}, {kinds, check, LENGTH_OF(argument), ONE_LESS}
+#define WRONG_LENGTH(kinds, check, argument) TOO_SHORT(kinds, check, argument), {kinds, check, LENGTH_OF(argument), ONE_MORE}
+#define IN_EACH_CARD(check, target, value)                                                                                     \
+    {IN(JUDGE_POOL), check, OF_CARD(0, target), value}, {IN(JUDGE_POOL), check, OF_CARD(1, target), value},                   \
+        {IN(JUDGE_POOL), check, OF_CARD(2, target), value}
 
 /* `next` stands before `open`, what is pending behind other fields of the card, and lengths are last. */
 const struct fault faults[] = {
-    {WITH_ROLE, RIGHT, NUMBER_ROLE, 0},
-    {WITH_ROLE, RIGHT, NUMBER_ROLE, LEGBARO_MANAGER + 1},
-    {WITH_ROLE, RIGHT, NUMBER_ROLE, (UINT64_C(1) << 32) + LEGBARO_PLANNER},
-    {WITH_ROLE, RIGHT, NUMBER_ROLE, UINT64_MAX},
-    {WITH_ROLE & ~(EITHER(APPEND) | EITHER(LOAD)), RIGHT, NUMBER_ROLE, LEGBARO_SURVEYOR},
-    {CHANGES | SETTLING, RIGHT, NUMBER_ROLE, LEGBARO_MANAGER},
+    {WITH_ROLE, PERMISSION, NUMBER_ROLE, 0},
+    {WITH_ROLE, PERMISSION, NUMBER_ROLE, LEGBARO_MANAGER + 1},
+    {WITH_ROLE, PERMISSION, NUMBER_ROLE, (UINT64_C(1) << 32) + LEGBARO_PLANNER},
+    {WITH_ROLE, PERMISSION, NUMBER_ROLE, UINT64_MAX},
+    {WITH_ROLE & ~(EITHER(APPEND) | EITHER(LOAD)), PERMISSION, NUMBER_ROLE, LEGBARO_SURVEYOR},
+    {CHANGES | SETTLING, PERMISSION, NUMBER_ROLE, LEGBARO_MANAGER},
     {IN(SET_UP), LIMITS, NUMBER_VERSION, 0},
     {IN(SET_UP), LIMITS, NUMBER_VERSION, LEGBARO_TWO_STEPS + 1},
     {IN(SET_UP), LIMITS, NUMBER_VERSION, 256 + LEGBARO_WITH_MARKS},
@@ -272,24 +272,24 @@ int fault_has(const struct fault *fault, enum kind kind, uint64_t version)
     return (fault->kinds & IN(kind)) && (!versions || fault->kinds & IN_VERSION(version));
 }
 
-enum place fault_at_start(enum kind kind, uint64_t version)
+enum check fault_at_start(enum kind kind, uint64_t version)
 {
     if (version == LEGBARO_TWO_STEPS)
         return NO_FAULT;
     return is_ask(kind) ? HEADER : kind == COMMIT || kind == DROP ? PENDING_OR_NOT : NO_FAULT;
 }
 
-enum place fault_first(const struct fault *a, const struct fault *b)
+enum check fault_first(const struct fault *a, const struct fault *b)
 {
-    if (a->place == OPEN_OR_NOT && b->place == PENDING_OR_NOT)
+    if (a->check == OPEN_OR_NOT && b->check == PENDING_OR_NOT)
         return LIMITS;
-    return a->place < b->place ? a->place : b->place;
+    return a->check < b->check ? a->check : b->check;
 }
 
-uint64_t fault_number(enum place place, enum kind kind)
+uint64_t fault_number(enum check check, enum kind kind)
 {
     const uint64_t numbers[] = {
-        [RIGHT] = LEGBARO_NO_RIGHT,
+        [PERMISSION] = LEGBARO_NO_RIGHT,
         [CUT] = LEGBARO_WRONG_HEADER,
         [CUT_REST] = LEGBARO_WRONG_LENGTH,
         [TIME] = LEGBARO_BAD_TIME,
@@ -317,5 +317,5 @@ uint64_t fault_number(enum place place, enum kind kind)
         [VERDICT] = kind == CAUSE ? LEGBARO_OK + 256 * LEGBARO_CAUSE_SIZE : LEGBARO_REJECTED,
         [NO_FAULT] = LEGBARO_OK + 256 * (kind == POSITIONS ? POSITIONS_ANSWER : 0),
     };
-    return numbers[place];
+    return numbers[check];
 }

@@ -21,8 +21,8 @@ enum { LOST_BLOCKS = 2, FIRST_LOST_BLOCK = 1, LAST_LOST_BLOCK = N };
  * after 8" 18, and "then a commit or drop with nothing pending (19)"; of a sheet "after 3, m above d (21)"; "ahead of every
  * check" 22; "straight after 22" the cut of a pool's cards, which comes to 2 or to 1; of a pool "after 3" 23; of parity "straight after 3,
  * a group outside these sizes or a lost block named twice or not in the group (24), then more losses than parity blocks (25)". */
-enum place {
-    RIGHT,
+enum check {
+    PERMISSION,
     CUT,
     CUT_REST,
     TIME,
@@ -55,7 +55,7 @@ enum place {
  * have it. */
 struct fault {
     unsigned kinds;
-    enum place place;
+    enum check check;
     unsigned target;
     uint64_t value;
 };
@@ -78,12 +78,12 @@ int fault_has(const struct fault *fault, enum kind kind, uint64_t version);
 void fault_make(struct call *call, const struct fault *fault, uint64_t version);
 
 /* What is wrong with a call of a kind on a file of a version from the start: asks and nothing pending, but in version 3. */
-enum place fault_at_start(enum kind kind, uint64_t version);
+enum check fault_at_start(enum kind kind, uint64_t version);
 
 /* The first place of two faults. A card with a token open and a change pending is outside its limits. */
-enum place fault_first(const struct fault *a, const struct fault *b);
+enum check fault_first(const struct fault *a, const struct fault *b);
 
 /* The number that a call of a kind returns with a fault at this place and none at an earlier one. */
-uint64_t fault_number(enum place place, enum kind kind);
+uint64_t fault_number(enum check check, enum kind kind);
 
 #endif

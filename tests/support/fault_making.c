@@ -9,19 +9,19 @@ uint64_t fault_pool_version(uint64_t version, size_t e)
 }
 
 /* Where file e of a pool has its card, or its reply. */
-static size_t pool_place(enum argument argument, uint64_t version, size_t e)
+static size_t pool_offset(enum argument argument, uint64_t version, size_t e)
 {
-    size_t place = 0;
+    size_t offset = 0;
     while (e--)
-        place += argument == REPLIES ? LEGBARO_REPLY_BYTES : second_card_bytes(fault_pool_version(version, e));
-    return place;
+        offset += argument == REPLIES ? LEGBARO_REPLY_BYTES : reference_card_bytes(fault_pool_version(version, e));
+    return offset;
 }
 
 /* Puts the first file's card or reply behind the last one's until there is one file too many, each with an id of its own. */
 static void make_one_file_too_many(struct call *call, enum argument argument, uint64_t version)
 {
-    struct buffer *b = &call->lent[argument];
-    size_t size = pool_place(argument, version, 1), at = b->length;
+    struct buffer *b = &call->args[argument];
+    size_t size = pool_offset(argument, version, 1), at = b->length;
     buffer_resize(b, at + (LEGBARO_MOST_POOLED + 1 - POOL_FILES) * size);
     for (uint64_t e = 0; at < b->length; e++, at += size) {
         memcpy(b->bytes + at, b->bytes, size);
@@ -32,11 +32,11 @@ static void make_one_file_too_many(struct call *call, enum argument argument, ui
 /* Puts a number into a field of a pool's card, or the id of another. */
 static void make_pool_fault(struct call *call, const struct fault *fault, uint64_t version)
 {
-    struct buffer *cards = &call->lent[CARDS];
-    size_t card = pool_place(CARDS, version, fault->target / TARGETS - 1);
+    struct buffer *cards = &call->args[CARDS];
+    size_t card = pool_offset(CARDS, version, fault->target / TARGETS - 1);
     const struct field *field = &fault_fields[fault->target % TARGETS];
     if (fault->target % TARGETS == CARD_ID)
-        memcpy(cards->bytes + card + LEGBARO_CARD_ID, cards->bytes + pool_place(CARDS, version, fault->value) + LEGBARO_CARD_ID,
+        memcpy(cards->bytes + card + LEGBARO_CARD_ID, cards->bytes + pool_offset(CARDS, version, fault->value) + LEGBARO_CARD_ID,
                LEGBARO_ID_BYTES);
     else
         buffer_put_number(cards, card + field->at, field->width, fault->value);
@@ -67,7 +67,7 @@ static void make_pending(struct buffer *card, uint64_t value)
 static void make_field_fault(struct call *call, const struct fault *fault, uint64_t version)
 {
     const struct field *field = &fault_fields[fault->target];
-    struct buffer *b = &call->lent[field->argument];
+    struct buffer *b = &call->args[field->argument];
     uint64_t value = fault->value;
     if (fault->target == CARD_OPEN && value == BEFORE_NEXT)
         value = buffer_number(b, LEGBARO_CARD_NEXT, 4) - 1;
@@ -84,13 +84,13 @@ void fault_make(struct call *call, const struct fault *fault, uint64_t version)
     else if (fault->target < LENGTH_OF(ARGUMENTS) && fault->value == ONE_FILE_TOO_MANY)
         make_one_file_too_many(call, (enum argument)fault->target, version);
     else if (fault->target < LENGTH_OF(ARGUMENTS))
-        make_length_fault(&call->lent[fault->target], fault->value, version);
+        make_length_fault(&call->args[fault->target], fault->value, version);
     else if (fault->target <= NUMBER_ROLE)
         *numbers[fault->target - NUMBER_VERSION] = fault->value;
     else if (fault->target == TAG_OF_RECORD_2)
-        buffer_flip(&call->lent[TABLE], 8 * (2 * LEGBARO_RECORD_BYTES - 1));
+        buffer_flip(&call->args[TABLE], 8 * (2 * LEGBARO_RECORD_BYTES - 1));
     else if (fault->target == CARD_PENDING)
-        make_pending(&call->lent[CARD], fault->value);
+        make_pending(&call->args[CARD], fault->value);
     else
         make_field_fault(call, fault, version);
 }

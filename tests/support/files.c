@@ -33,12 +33,12 @@ uint64_t any_permitted(enum kind kind)
 struct call file_set_up_call(uint64_t version, uint64_t B, uint64_t d, uint64_t r, uint64_t t, uint64_t n)
 {
     struct call call = {.kind = SET_UP, .version = version, .B = B, .d = d, .r = r, .t = t, .n = n};
-    call.lent[MASTER] = any_bytes(LEGBARO_MASTER_BYTES);
-    call.lent[ID] = any_bytes(LEGBARO_ID_BYTES);
-    call.lent[BLOCKS] = any_bytes(n * B);
-    call.lent[CARD] = buffer_blank(second_card_bytes(version));
-    call.lent[TABLE] = buffer_blank(t * LEGBARO_RECORD_BYTES);
-    call.lent[TOTALS] = any_bytes(LEGBARO_TOTALS_BYTES);
+    call.args[MASTER] = any_bytes(LEGBARO_MASTER_BYTES);
+    call.args[ID] = any_bytes(LEGBARO_ID_BYTES);
+    call.args[BLOCKS] = any_bytes(n * B);
+    call.args[CARD] = buffer_blank(reference_card_bytes(version));
+    call.args[TABLE] = buffer_blank(t * LEGBARO_RECORD_BYTES);
+    call.args[TOTALS] = any_bytes(LEGBARO_TOTALS_BYTES);
     return call;
 }
 
@@ -47,12 +47,12 @@ struct file file_of(const struct call *set_up)
     struct call call = call_copy(set_up);
     call_expect(&call, LEGBARO_OK, "accepted");
     struct file file = {.book = book_start(&call),
-                        .master = buffer_copy(&call.lent[MASTER]),
-                        .card = buffer_copy(&call.lent[CARD]),
-                        .table = buffer_copy(&call.lent[TABLE]),
-                        .asked = buffer_blank(call.lent[TABLE].length),
+                        .master = buffer_copy(&call.args[MASTER]),
+                        .card = buffer_copy(&call.args[CARD]),
+                        .table = buffer_copy(&call.args[TABLE]),
+                        .asked = buffer_blank(call.args[TABLE].length),
                         .message = buffer_blank(LEGBARO_MESSAGE_BYTES),
-                        .work = call_totals(&call)};
+                        .totals = call_totals(&call)};
     call_free(&call);
     return file;
 }
@@ -93,7 +93,7 @@ static struct buffer honest_reply(const struct file *file)
     struct call proof = file_call(file, PROVE);
     if (file->book.numbers.open)
         call_expect(&proof, LEGBARO_OK, "accepted");
-    struct buffer reply = buffer_copy(&proof.lent[REPLY]);
+    struct buffer reply = buffer_copy(&proof.args[REPLY]);
     call_free(&proof);
     return reply;
 }
@@ -138,11 +138,11 @@ static size_t a_few_items(const struct file *file)
 }
 
 /* Lends a call any plan and any time that the plan allows. */
-static void lend_hours(struct call *call)
+static void set_draw_time(struct call *call)
 {
     struct when when = any_time();
-    call->lent[PLAN] = any_plan();
-    plan_allow(&call->lent[PLAN], &when);
+    call->args[PLAN] = any_schedule();
+    schedule_allow(&call->args[PLAN], &when);
     call_at(call, &when);
 }
 
@@ -151,31 +151,31 @@ struct call file_call(const struct file *file, enum kind kind)
     const struct card *numbers = &file->book.numbers;
     struct call call = {.kind = kind, .role = any_permitted(kind), .m = 1 + chance_below(numbers->n)};
     if (call_takes(kind, MASTER))
-        call.lent[MASTER] = buffer_copy(&file->master);
+        call.args[MASTER] = buffer_copy(&file->master);
     if (call_takes(kind, CARD))
-        call.lent[CARD] = buffer_copy(&file->card);
+        call.args[CARD] = buffer_copy(&file->card);
     if (call_takes(kind, TABLE))
-        call.lent[TABLE] = buffer_copy(&file->table);
+        call.args[TABLE] = buffer_copy(&file->table);
     if (call_takes(kind, SECOND))
-        call.lent[SECOND] = any_bytes(file->table.length);
+        call.args[SECOND] = any_bytes(file->table.length);
     if (call_takes(kind, BLOCKS))
-        call.lent[BLOCKS] = unasked(kind) == LOAD ? any_bytes((1 + chance_below(A_FEW)) * numbers->B) : current_blocks(file);
+        call.args[BLOCKS] = unasked(kind) == LOAD ? any_bytes((1 + chance_below(A_FEW)) * numbers->B) : current_blocks(file);
     if (call_takes(kind, OLD))
-        call.lent[OLD] = buffer_of(book_block(&file->book, call.m), numbers->B);
+        call.args[OLD] = buffer_of(book_block(&file->book, call.m), numbers->B);
     if (call_takes(kind, MARKS))
-        call.lent[MARKS] = kind == PROVE ? current_marks(file, 1, numbers->n) : current_marks(file, call.m, 1);
+        call.args[MARKS] = kind == PROVE ? current_marks(file, 1, numbers->n) : current_marks(file, call.m, 1);
     if (call_takes(kind, NEW))
-        call.lent[NEW] = any_bytes(numbers->B);
+        call.args[NEW] = any_bytes(numbers->B);
     if (call_takes(kind, ITEMS))
-        call.lent[ITEMS] = any_items(file, a_few_items(file));
+        call.args[ITEMS] = any_items(file, a_few_items(file));
     if (call_takes(kind, MESSAGE))
-        call.lent[MESSAGE] = buffer_copy(&file->message);
+        call.args[MESSAGE] = buffer_copy(&file->message);
     if (call_takes(kind, PLAN))
-        lend_hours(&call);
+        set_draw_time(&call);
     if (call_takes(kind, REPLY))
-        call.lent[REPLY] = kind == JUDGE || kind == CAUSE ? honest_reply(file) : buffer_blank(LEGBARO_REPLY_BYTES);
+        call.args[REPLY] = kind == JUDGE || kind == CAUSE ? honest_reply(file) : buffer_blank(LEGBARO_REPLY_BYTES);
     if (call_takes(kind, TOTALS))
-        call.lent[TOTALS] = any_bytes(LEGBARO_TOTALS_BYTES);
+        call.args[TOTALS] = any_bytes(LEGBARO_TOTALS_BYTES);
     return call;
 }
 
@@ -183,17 +183,17 @@ struct call file_block_call(const struct file *file, enum kind kind, uint64_t m)
 {
     struct call call = file_call(file, kind);
     call.m = m;
-    memcpy(call.lent[OLD].bytes, book_block(&file->book, m), call.lent[OLD].length);
-    if (call.lent[MARKS].length)
-        call.lent[MARKS].bytes[0] = *book_mark(&file->book, m);
+    memcpy(call.args[OLD].bytes, book_block(&file->book, m), call.args[OLD].length);
+    if (call.args[MARKS].length)
+        call.args[MARKS].bytes[0] = *book_mark(&file->book, m);
     return call;
 }
 
 struct call file_load_call(const struct file *file, uint64_t blocks)
 {
     struct call call = file_call(file, LOAD);
-    buffer_free(&call.lent[BLOCKS]);
-    call.lent[BLOCKS] = any_bytes(blocks * file->book.numbers.B);
+    buffer_free(&call.args[BLOCKS]);
+    call.args[BLOCKS] = any_bytes(blocks * file->book.numbers.B);
     return call;
 }
 
@@ -201,8 +201,8 @@ struct call file_load_call(const struct file *file, uint64_t blocks)
 static struct call batch_call(const struct file *file, struct buffer items)
 {
     struct call call = file_call(file, BATCH);
-    buffer_free(&call.lent[ITEMS]);
-    call.lent[ITEMS] = items;
+    buffer_free(&call.args[ITEMS]);
+    call.args[ITEMS] = items;
     return call;
 }
 
@@ -231,15 +231,15 @@ uint64_t file_run(struct file *file, struct call *call)
     uint64_t number = call_compare(call);
     expect(number == answer, "%s: the book's number %llu, not %llu", call_name(call->kind), (unsigned long long)answer,
            (unsigned long long)number);
-    take_over(&file->card, &call->lent[CARD]);
-    take_over(&file->table, &call->lent[TABLE]);
-    take_over(&file->message, &call->lent[MESSAGE]);
+    take_over(&file->card, &call->args[CARD]);
+    take_over(&file->table, &call->args[TABLE]);
+    take_over(&file->message, &call->args[MESSAGE]);
     if (call->kind == JUDGE_POOL)
-        memcpy(file->card.bytes, call->lent[CARDS].bytes + call->place, file->card.length);
+        memcpy(file->card.bytes, call->args[CARDS].bytes + call->card_offset, file->card.length);
     if (is_ask(call->kind) && number == LEGBARO_OK)
-        take_over(&file->asked, &call->lent[SECOND]);
+        take_over(&file->asked, &call->args[SECOND]);
     if (call_takes(call->kind, TOTALS) && number == LEGBARO_OK)
-        second_add_totals(&file->work, call_totals(call));
+        reference_add_totals(&file->totals, call_totals(call));
     if (call->kind == COMMIT && number == LEGBARO_OK)
         take_over(&file->table, &file->asked);
     call_free(call);
@@ -284,7 +284,7 @@ const uint64_t block_sizes[BLOCK_SIZES] = {1,  18, 19, 20, 26, 27,  28,  29,  82
 void file_each_size(void (*look)(const struct file *file))
 {
     for (size_t b = 0; b < BLOCK_SIZES; b++)
-        for (uint64_t n = 1; n <= 12; n = tried_behind(n, 6)) {
+        for (uint64_t n = 1; n <= 12; n = tried_after(n, 6)) {
             struct file file = file_set_up(any_version(), block_sizes[b], 5, 1 + chance_below(5), 3, n);
             look(&file);
             file_audit(&file);

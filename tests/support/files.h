@@ -10,7 +10,7 @@ struct file {
     struct buffer master, card, table;
     struct buffer asked;   /* the table of the ask accepted last; blank before the first */
     struct buffer message; /* the one drawn last; blank before the first draw */
-    struct totals work;    /* of set-up and every accepted change and ask */
+    struct totals totals;    /* of set-up and every accepted change and ask */
 };
 
 /* Any of the versions; any role that may make calls of a kind, where they are told one. */
@@ -44,7 +44,7 @@ struct call file_batch_call(const struct file *file, size_t items);
 struct call file_batch_of(const struct file *file, const uint64_t *blocks, size_t items);
 size_t file_item_at(const struct file *file, size_t item, size_t offset);
 
-/* Runs a change, ask, commit, drop, draw or judging: compared with the second implementation and with the book. The file takes the buffers
+/* Runs a change, ask, commit, drop, draw or judging: compared with the reference implementation and with the book. The file takes the buffers
  * that it left, of a pool the card in its place, and with a commit the asked table for its own; the call is freed. Answers the number. */
 uint64_t file_run(struct file *file, struct call *call);
 

@@ -1,4 +1,4 @@
-/* See pooled.h. */
+/* See pool_calls.h. */
 #include "pool_calls.h"
 
 #include "chance.h"
@@ -11,7 +11,7 @@ enum { B = 5, D = 3, R = 2, T = 6, N = 4, A_FEW = 3 };
 struct file pool_file(const struct buffer *master, uint64_t version)
 {
     struct call set_up = file_set_up_call(version, B, D, R, T, N);
-    memcpy(set_up.lent[MASTER].bytes, master->bytes, master->length);
+    memcpy(set_up.args[MASTER].bytes, master->bytes, master->length);
     struct file file = file_of(&set_up);
     call_free(&set_up);
     for (uint64_t changes = chance_below(A_FEW); changes; changes--)
@@ -25,34 +25,34 @@ struct file pool_file(const struct buffer *master, uint64_t version)
 struct call pooling_call(const struct file *const *files, size_t count)
 {
     struct call call = {.kind = POOL};
-    call.lent[REPLIES] = buffer_blank(count * LEGBARO_REPLY_BYTES);
-    call.lent[POOLED] = buffer_blank(LEGBARO_POOLED_BYTES(count));
+    call.args[REPLIES] = buffer_blank(count * LEGBARO_REPLY_BYTES);
+    call.args[POOLED] = buffer_blank(LEGBARO_POOLED_BYTES(count));
     for (size_t e = 0; e < count; e++) {
         struct call judge = file_call(files[e], JUDGE);
-        memcpy(call.lent[REPLIES].bytes + e * LEGBARO_REPLY_BYTES, judge.lent[REPLY].bytes, LEGBARO_REPLY_BYTES);
+        memcpy(call.args[REPLIES].bytes + e * LEGBARO_REPLY_BYTES, judge.args[REPLY].bytes, LEGBARO_REPLY_BYTES);
         call_free(&judge);
     }
     return call;
 }
 
-/* Where card e of these files lies; behind the last where it would be. */
-static size_t place_of_card(const struct file *const *files, size_t e)
+/* Where card e of these files lies; after the last where it would be. */
+static size_t card_offset(const struct file *const *files, size_t e)
 {
-    size_t place = 0;
+    size_t offset = 0;
     while (e)
-        place += files[--e]->card.length;
-    return place;
+        offset += files[--e]->card.length;
+    return offset;
 }
 
 struct call pool_call(const struct file *const *files, size_t count)
 {
     struct call call = {.kind = JUDGE_POOL, .role = any_permitted(JUDGE_POOL)}, pooling = pooling_call(files, count);
     call_compare(&pooling);
-    call.lent[MASTER] = count ? buffer_copy(&files[0]->master) : buffer_blank(LEGBARO_MASTER_BYTES);
-    call.lent[CARDS] = buffer_blank(place_of_card(files, count));
+    call.args[MASTER] = count ? buffer_copy(&files[0]->master) : buffer_blank(LEGBARO_MASTER_BYTES);
+    call.args[CARDS] = buffer_blank(card_offset(files, count));
     for (size_t e = 0; e < count; e++)
-        memcpy(call.lent[CARDS].bytes + place_of_card(files, e), files[e]->card.bytes, files[e]->card.length);
-    call.lent[REPLY] = buffer_copy(&pooling.lent[POOLED]);
+        memcpy(call.args[CARDS].bytes + card_offset(files, e), files[e]->card.bytes, files[e]->card.length);
+    call.args[REPLY] = buffer_copy(&pooling.args[POOLED]);
     call_free(&pooling);
     return call;
 }
@@ -68,30 +68,30 @@ struct call pool_among_others(const struct file *file)
             others[made++] = pool_file(&file->master, any_version());
     }
     struct call call = pool_call(files, count);
-    call.place = place_of_card(files, own);
+    call.card_offset = card_offset(files, own);
     while (made)
         file_end(&others[--made]);
     return call;
 }
 
-size_t pool_cut(const struct buffer *cards, size_t *places)
+size_t pool_cut(const struct buffer *cards, size_t *offsets)
 {
     size_t count = 0;
     for (size_t at = 0; at + 2 <= cards->length && count < POOL_ROOM; at += 2 + buffer_number(cards, at, 2))
-        places[count++] = at;
+        offsets[count++] = at;
     return count;
 }
 
 void pool_put_card(struct call *call, size_t at, const struct buffer *card)
 {
-    struct buffer *cards = &call->lent[CARDS];
-    size_t behind = at + 2 + buffer_number(cards, at, 2);
-    struct buffer other = buffer_blank(at + card->length + (cards->length - behind));
+    struct buffer *cards = &call->args[CARDS];
+    size_t after = at + 2 + buffer_number(cards, at, 2);
+    struct buffer other = buffer_blank(at + card->length + (cards->length - after));
     memcpy(other.bytes, cards->bytes, at);
     memcpy(other.bytes + at, card->bytes, card->length);
-    memcpy(other.bytes + at + card->length, cards->bytes + behind, cards->length - behind);
-    if (at < call->place)
-        call->place = call->place - behind + at + card->length;
+    memcpy(other.bytes + at + card->length, cards->bytes + after, cards->length - after);
+    if (at < call->card_offset)
+        call->card_offset = call->card_offset - after + at + card->length;
     buffer_free(cards);
     *cards = other;
 }
@@ -99,10 +99,10 @@ void pool_put_card(struct call *call, size_t at, const struct buffer *card)
 uint64_t pool_run(struct file *const *files, size_t count, struct call *call)
 {
     uint64_t first = LEGBARO_OK;
-    for (size_t e = 0, place = 0; e < count; e++) {
+    for (size_t e = 0, offset = 0; e < count; e++) {
         struct call step = call_copy(call);
-        step.place = place;
-        place += files[e]->card.length;
+        step.card_offset = offset;
+        offset += files[e]->card.length;
         uint64_t number = file_run(files[e], &step);
         if (e == 0)
             first = number;

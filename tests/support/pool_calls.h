@@ -21,8 +21,8 @@ struct call pool_call(const struct file *const *files, size_t count);
 /* A pooled judging of a file among a few others, new ones of any version with tokens drawn; its card is in any place, which the call tells. */
 struct call pool_among_others(const struct file *file);
 
-/* The places of cards that lie end to end, each as long as its length field tells, at most POOL_ROOM; answers how many they are. */
-size_t pool_cut(const struct buffer *cards, size_t *places);
+/* The offsets of cards that lie end to end, each as long as its length field tells, at most POOL_ROOM; answers how many they are. */
+size_t pool_cut(const struct buffer *cards, size_t *offsets);
 
 /* Puts other bytes, of any length, in the place of another file's card, of which there is one at `at`. */
 void pool_put_card(struct call *call, size_t at, const struct buffer *card);
