@@ -154,7 +154,7 @@ static struct times measure(int row)
         calls[way] = calls_for(timed_by(way, &call, row, 1));
         most = calls[way] > most ? calls[way] : most;
     }
-    for (int turn = 0; turn < TURNS; turn++)
+    for (int i = 0; i < REPEATS; i++)
         for (int way = 0; way < WAYS; way++)
             if (calls[way])
                 t.best[way] = lesser(t.best[way], timed_by(way, &call, row, measures[row].kind == UPDATE ? most : calls[way]));

@@ -12,7 +12,7 @@ double helper_timed(int row, unsigned calls);
 /* What the helper itself does: it answers every question, a row and how many calls, by what it is given. */
 void help(double (*timed)(int row, unsigned calls));
 
-/* The word by which the program is told that it is the helper. */
+/* The word that makes the program the helper. */
 #define HELPER "--helper"
 
 #endif

@@ -32,7 +32,7 @@ static struct both measure(struct pair *pair, uint64_t (*run)(struct call *))
     compare(run, &pair->call);
     compare(run, &pair->other);
     unsigned ones = calls_for(timed(run, &pair->call, 1, 1)), others = others_for(pair, timed(run, &pair->other, pair->n, 1));
-    for (int turn = 0; turn < TURNS; turn++) {
+    for (int i = 0; i < REPEATS; i++) {
         best.one = lesser(best.one, timed(run, &pair->call, 1, ones));
         best.others = lesser(best.others, timed_others(pair, run, others));
     }

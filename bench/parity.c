@@ -78,7 +78,7 @@ static uint64_t rebuild_portable(struct call *call)
 enum { VECTOR, PORTABLE, OURS, ALL = OURS + CHOSEN - PLAIN + 1 };
 
 /* The best of many times by each way, all alternating; 0 for a code that the processor can't run. ISA-L's vector code leaves the upper
- * halves of registers in use, which slows down plain code behind it; a call of the library clears them. */
+ * halves of registers in use, which slows down plain code after it; a call of the library clears them. */
 static void measure(struct call *call, uint64_t (*const ways[ALL])(struct call *), double best[ALL])
 {
     unsigned calls[ALL];
@@ -91,7 +91,7 @@ static void measure(struct call *call, uint64_t (*const ways[ALL])(struct call *
         best[way] = timed(ways[way], call, 1, 1);
         calls[way] = calls_for(best[way]);
     }
-    for (int turn = 0; turn < TURNS; turn++)
+    for (int i = 0; i < REPEATS; i++)
         for (int way = 0; way < ALL; way++)
             if (best[way] > 0) {
                 call_library(call);

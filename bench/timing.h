@@ -10,9 +10,9 @@ enum { LIBCRYPTO, PLAIN, AVX2, AVX512, CHOSEN, WITHOUT_SHA, WAYS };
 extern uint64_t (*const runs[WAYS])(struct call *);
 
 /* In each row the ways alternate so many times, and the best counts. */
-enum { TURNS = 40 };
+enum { REPEATS = 40 };
 
-/* Nanoseconds for one of so many calls, behind a short rest: a processor may run slower for a while after the widest code. Updates go through
+/* Nanoseconds for one of so many calls, after a short rest: a processor may run slower for a while after the widest code. Updates go through
  * all n blocks. */
 double timed(uint64_t (*run)(struct call *), struct call *call, uint64_t n, unsigned calls);
 

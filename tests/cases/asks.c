@@ -62,7 +62,7 @@ static void every_kind(const struct file *file)
     both_ways(file, file_batch_call(file, file->book.numbers.n));
 }
 
-/* With every number of tokens spent, behind asks that were dropped and such that were committed. */
+/* With every number of tokens spent, after asks that were dropped and such that were committed. */
 static void with_spent(uint64_t bytes, uint64_t d)
 {
     struct file file = file_set_up(LEGBARO_TWO_STEPS, bytes, d, 1 + chance_below(d), T, 1 + chance_below(2 * d));
@@ -87,7 +87,7 @@ static void one_step_and_two(void)
     test_end();
 }
 
-/* A change that is turned away, and the same asked: the same number. */
+/* A refused change, and the same asked: the same number. */
 static void both_refused(struct call change, uint64_t number)
 {
     struct call ask = call_asked(&change);
@@ -125,7 +125,7 @@ static void all_refused(const struct file *file, uint64_t code)
 
 static void same_refusals(void)
 {
-    test_begin("an ask is turned away as the change in one step is");
+    test_begin("an ask is refused as the change in one step is");
     struct file file = file_set_up(LEGBARO_TWO_STEPS, B, D, D, T, N);
     file_audit(&file);
     for (enum kind kind = UPDATE; kind <= BATCH; kind++)
@@ -220,7 +220,7 @@ static void asked_again(void)
             file_do(&file, DROP);
         }
         file_do(&file, UPDATE);
-        expect(file.book.numbers.ctr == 10, "the counter behind the last one issued");
+        expect(file.book.numbers.ctr == 10, "the counter after the last one issued");
         file_expect_book(&file);
         file_end(&file);
     }

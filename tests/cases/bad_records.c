@@ -83,15 +83,15 @@ static void fetch_again(struct buffer *table, const struct buffer *sound, uint64
 }
 
 /* Expects of an accepted change, asked or not, what the same change makes of the sound table, and spent records, damaged or not, as they
- * were lent. */
-static void expect_mended(const struct call *call, const struct call *sound, const struct buffer *lent, uint64_t next)
+ * were before. */
+static void expect_mended(const struct call *call, const struct call *sound, const struct buffer *before, uint64_t next)
 {
     size_t spent = (next - 1) * LEGBARO_RECORD_BYTES;
     enum argument written = is_ask(call->kind) ? SECOND : TABLE;
     expect(buffer_same(&call->args[CARD], &sound->args[CARD]), "the card of the change on the sound table");
-    expect(memcmp(call->args[written].bytes + spent, sound->args[written].bytes + spent, lent->length - spent) == 0,
+    expect(memcmp(call->args[written].bytes + spent, sound->args[written].bytes + spent, before->length - spent) == 0,
            "the unused records of the change on the sound table");
-    expect(memcmp(call->args[written].bytes, lent->bytes, spent) == 0, "spent records keep their bytes");
+    expect(memcmp(call->args[written].bytes, before->bytes, spent) == 0, "spent records keep their bytes");
 }
 
 /* A change with the records of a set damaged: refused with the lowest unused one, if any, and accepted once the records from that number
@@ -104,15 +104,15 @@ static void damaged_set(const struct held *held, enum kind kind, const struct se
     for (uint64_t i = 1; i <= numbers->t; i++)
         if (set->has[i])
             damage_record(held, &call.args[TABLE], i, how);
-    struct buffer lent = buffer_copy(&call.args[TABLE]);
+    struct buffer before = buffer_copy(&call.args[TABLE]);
     call_expect(&sound, LEGBARO_OK, "the sound table");
     call_expect(&call, lowest ? LEGBARO_BAD_RECORD + 256 * lowest : LEGBARO_OK, "the lowest unused damaged record");
     if (lowest) {
         fetch_again(&call.args[TABLE], &held->file.table, lowest);
         call_expect(&call, LEGBARO_OK, "the records from that number on fetched again");
     }
-    expect_mended(&call, &sound, &lent, numbers->next);
-    buffer_free(&lent);
+    expect_mended(&call, &sound, &before, numbers->next);
+    buffer_free(&before);
     call_free(&call);
     call_free(&sound);
 }
@@ -159,7 +159,7 @@ static void small_table(uint64_t version, uint64_t t)
 static void small_tables(void)
 {
     for (uint64_t t = 1; t <= SMALL_T; t++) {
-        test_begin("every set of damaged records in a table of %llu, fetched again from the number told", (unsigned long long)t);
+        test_begin("every set of damaged records in a table of %llu, fetched again from the reported number", (unsigned long long)t);
         for (uint64_t version = FIRST_VERSION; version <= LAST_VERSION; version++)
             small_table(version, t);
         test_end();
@@ -190,7 +190,7 @@ static void larger_table(uint64_t t, uint64_t spent)
 
 static void larger_tables(void)
 {
-    test_begin("any set of damaged records in larger tables, fetched again from the number told");
+    test_begin("any set of damaged records in larger tables, fetched again from the reported number");
     for (uint64_t i = 0; i < LARGER_FILES; i = tried_after(i, 8)) {
         uint64_t t = SMALL_T + 1 + chance_below(MOST_T - SMALL_T);
         larger_table(t, chance_below(t / 4 + 1));

@@ -245,7 +245,7 @@ static void new_bytes_of_deletions(void)
 
 /* ---- Faults ---- */
 
-/* What may be wrong with an item of a batch: its kind is 0 or 3; its number is that of the item before or behind; its mark is 2 or 255; its
+/* What may be wrong with an item of a batch: its kind is 0 or 3; its number is that of the item before or after; its mark is 2 or 255; its
  * number is 0, or above n. In version 1 there is no mark, and the number is 0 instead. */
 enum wrong { KIND_0, KIND_3, AS_BEFORE, AS_BEHIND, MARK_2, MARK_255, NUMBER_0, ABOVE_N, WRONGS };
 

@@ -106,10 +106,10 @@ static void proof_bits(const struct file *judging)
     test_end();
 }
 
-/* Every bit of a plan, in a draw and in a wait. */
+/* Every bit of a schedule, in a draw and in a wait. */
 static void plan_bits(const struct file *changing)
 {
-    test_begin("every bit of a plan");
+    test_begin("every bit of a schedule");
     for (size_t bit = 0; bit < 8 * LEGBARO_PLAN_BYTES; bit = tried_after(bit, BITS)) {
         struct call wait = file_call(changing, DRAW);
         with_bit(changing, DRAW, PLAN, bit);

@@ -1,4 +1,4 @@
-/* The parts of the test program. Each runs one group of tests or several. */
+/* The parts of the test program. Each runs one test or several. */
 #ifndef CASES_H
 #define CASES_H
 
@@ -38,7 +38,7 @@ void test_pending(void);
 /* Totals: what calls count beside what other calls count, and the bounds that a planner may quote. */
 void test_totals(void);
 
-/* Who may do what: every call by every role, whatever else is lent. */
+/* Who may do what: every call by every role, whatever else is passed. */
 void test_roles(void);
 
 /* What a host can read from a reseal: equal clear bytes whatever was changed, and sealed ones that look unrelated. */
@@ -62,7 +62,7 @@ void test_parity(void);
 /* Every date of a hundred years, the wait for a window, and draws in and outside windows. */
 void test_schedule(void);
 
-/* Random lists of calls, turned-away ones included, on files of every small and odd size. */
+/* Random lists of calls, refused ones included, on files of every small and odd size. */
 void test_lists(unsigned lists);
 
 /* The most of every number. */

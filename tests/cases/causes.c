@@ -39,7 +39,7 @@ static const struct part {
 
 enum { PARTS = sizeof parts / sizeof *parts };
 
-/* A file with a token drawn, behind changes and spent tokens. */
+/* A file with a token drawn, after changes and spent tokens. */
 static struct file drawn(uint64_t version)
 {
     struct file file = file_set_up(version, B, D, R, T, N);

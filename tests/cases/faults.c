@@ -28,7 +28,7 @@ static struct file prepared(void)
     return file;
 }
 
-/* Lends a call the plan and the time of fault_list.h. */
+/* Gives a call the schedule and the time of fault_list.h. */
 static void at_an_open_hour(struct call *call)
 {
     struct when when = {YEAR, MONTH, DAY, MINUTE};
@@ -99,7 +99,7 @@ static struct call faultless(enum kind kind)
     return call;
 }
 
-/* Runs a call with faults of which the first is at this place; the version's may come before. */
+/* Runs a call with faults of which this check finds the first; the version's may come before. */
 static void finish(struct call *call, enum check check, const char *what)
 {
     enum check start = fault_at_start(call->kind, version);

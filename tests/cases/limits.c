@@ -32,7 +32,7 @@ static void round_of_calls(struct file *file)
     file_expect_book(file);
 }
 
-/* Expects a call on the file, with nothing wrong in its arguments, to be turned away with a code. */
+/* Expects a call on the file, with nothing wrong in its arguments, to be refused with a code. */
 static void refused(const struct file *file, enum kind kind, uint64_t code)
 {
     struct call call = file_call(file, kind);
@@ -82,7 +82,7 @@ static void most_tokens(uint64_t version)
     test_end();
 }
 
-/* Expects a load of so many blocks to be turned away with a code. */
+/* Expects a load of so many blocks to be refused with a code. */
 static void load_refused(const struct file *file, uint64_t blocks, uint64_t code)
 {
     struct call call = file_load_call(file, blocks);
@@ -116,7 +116,7 @@ static void full(struct file *file)
     file_expect_book(file);
 }
 
-/* Set up with all but a few blocks, and filled by appends and loads; a load one past the most is turned away. */
+/* Set up with all but a few blocks, and filled by appends and loads; a load one past the most is refused. */
 static void most_blocks(uint64_t version)
 {
     enum { LEFT = 50 };
@@ -132,7 +132,7 @@ static void most_blocks(uint64_t version)
     test_end();
 }
 
-/* Set up with the most blocks; with one more it is turned away. */
+/* Set up with the most blocks; with one more it is refused. */
 static void most_blocks_at_once(uint64_t version)
 {
     test_begin("the most blocks at set-up, version %llu", (unsigned long long)version);

@@ -64,7 +64,7 @@ static void disturb_item(const struct file *file, struct buffer *items)
         buffer_put_number(items, block, 4, none[chance_below(COUNT(none))]);
 }
 
-/* Any plan and any time: it may or may not allow it. At times there is no such date or minute, or no such minute in the plan. */
+/* Any schedule and any time: it may or may not allow it. At times there is no such date or minute, or no such minute in the schedule. */
 static void disturb_hours(struct call *call)
 {
     struct when when = any_time();
@@ -76,7 +76,7 @@ static void disturb_hours(struct call *call)
     call_at(call, &when);
 }
 
-/* Any bytes behind a length field that tells how many: as many as a card has, or any number. */
+/* Any bytes after a length field that says how many: as many as a card has, or any number. */
 static struct buffer no_card(void)
 {
     struct buffer b = buffer_blank(chance_of(2) ? reference_card_bytes(any_version()) : 2 + chance_below(LONGEST_CARD));
@@ -85,7 +85,7 @@ static struct buffer no_card(void)
     return b;
 }
 
-/* A card with some of these: another version, no token drawn, the file's own id, a bit flipped behind the length field. */
+/* A card with some of these: another version, no token drawn, the file's own id, a bit flipped after the length field. */
 static struct buffer another_card(const struct file *file, const uint8_t *card)
 {
     struct card numbers = reference_read_card(card);
@@ -102,7 +102,7 @@ static struct buffer another_card(const struct file *file, const uint8_t *card)
     return other;
 }
 
-/* Puts something in the place of one of the other cards of a pooled judging: "whatever else they hold" */
+/* Replaces one of the other cards of a pooled judging: "whatever else they hold" */
 static void disturb_pool(const struct file *file, struct call *call)
 {
     size_t offsets[POOL_ROOM], at = offsets[chance_below(pool_cut(&call->args[CARDS], offsets))];
@@ -113,14 +113,14 @@ static void disturb_pool(const struct file *file, struct call *call)
     buffer_free(&other);
 }
 
-/* Any role, with a right or without, or a number that is none. */
+/* Any role, with permission or without, or a number that is none. */
 static uint64_t any_role(void)
 {
     static const uint64_t roles[] = {0, LEGBARO_SURVEYOR, LEGBARO_PLANNER, LEGBARO_MANAGER, LEGBARO_MANAGER + 1, UINT64_MAX};
     return chance_of(8) ? chance() : roles[chance_below(COUNT(roles))];
 }
 
-/* Something wrong in what a list may hold: anything lent but card and table, the master's bytes and a block's present bytes and mark. */
+/* Something wrong in what a list may hold: any buffer but card and table, the master's bytes and a block's present bytes and mark. */
 static void disturb(const struct file *file, struct call *call)
 {
     static const enum argument args[] = {MASTER, SECOND, OLD, MARKS, NEW, BLOCKS, ITEMS, MESSAGE, PLAN, REPLY, TOTALS};
@@ -181,7 +181,7 @@ static struct call next_in_one_step(const struct file *file)
     return call;
 }
 
-/* Every second change of a file that takes changes in two steps is asked, and at times one of another file, which is turned away. */
+/* Every second change of a file that takes changes in two steps is asked, and at times one of another file, which is refused. */
 static struct call next_call(const struct file *file)
 {
     struct call call = next_in_one_step(file);

@@ -85,7 +85,7 @@ static void large_loads(void)
 }
 
 /* Loads below, at and above eight blocks for each position, from where on a load goes through the positions, and with their last walks alone,
- * two, three and four at once, within a group of 1,024 and behind it. */
+ * two, three and four at once, within a run of 1,024 and after it. */
 static void through_positions(uint64_t B, uint64_t d, uint64_t r)
 {
     const uint64_t sizes[] = {8 * r - 1, 8 * r, 8 * r + 1, 8 * r + 2, 8 * r + 3, 1023, 1024, 1025, 1026, 1027, 2049};
@@ -144,7 +144,7 @@ static struct buffer drawn_reply(struct file *file)
 }
 
 /* One set-up made twice; the blocks come as one load there and one by one here, with the same turns and hashes. Both are audited alike: the
- * record's counter apart, which stands behind the digest with the sealed token, the replies are the same. */
+ * record's counter apart, which stands after the digest with the sealed token, the replies are the same. */
 static void load_and_appends(uint64_t B, uint64_t d, uint64_t r, uint64_t n, uint64_t blocks)
 {
     enum { BEFORE_RECORD = LEGBARO_REPLY_BYTES - LEGBARO_RECORD_BYTES };

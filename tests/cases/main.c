@@ -1,5 +1,5 @@
 /*
- * Compares the library with the reference implementation and with the plain book. The last line is 'N passed, M failed', groups of tests.
+ * Compares the library with the reference implementation and with the plain book. The last line is 'N passed, M failed'.
  *
  *   --seed N    another seed than the fixed one
  *   --lists N   how many random lists

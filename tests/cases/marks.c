@@ -155,7 +155,7 @@ static void wrong_old_marks(void)
 
 /* ---- Versions with marks beside version 1 ---- */
 
-/* The blocks of a file that has marks, each behind its mark. */
+/* The blocks of a file that has marks, each after its mark. */
 static struct buffer marked_blocks(const struct file *file)
 {
     uint64_t bytes = file->book.numbers.B, n = file->book.numbers.n;
@@ -168,7 +168,7 @@ static struct buffer marked_blocks(const struct file *file)
     return blocks;
 }
 
-/* Expects the tokens of a file that has marks in a set-up of version 1, of the same master and id, over its blocks behind their marks. */
+/* Expects the tokens of a file that has marks in a set-up of version 1, of the same master and id, over its blocks after their marks. */
 static void expect_twin(const struct file *file)
 {
     const struct card *numbers = &file->book.numbers;
@@ -193,7 +193,7 @@ static void expect_twin(const struct file *file)
 static void twins(void)
 {
     static const enum kind changes[] = {UPDATE, DELETE, DELETE, APPEND, LOAD, BATCH};
-    test_begin("tokens of versions 2 and 3 are those of version 1 over blocks behind their marks");
+    test_begin("tokens of versions 2 and 3 are those of version 1 over blocks after their marks");
     for (uint64_t i = 0; i < TWINS; i = tried_after(i, 5)) {
         uint64_t d = 1 + chance_below(20);
         uint64_t version = LEGBARO_WITH_MARKS + chance_below(LAST_VERSION + 1 - LEGBARO_WITH_MARKS);

@@ -200,7 +200,7 @@ static void unread(void)
     test_end();
 }
 
-/* Any numbers, lengths and lists of the lost, inside the limits and outside: what is turned away leaves the buffers. */
+/* Any numbers, lengths and lists of the lost, inside the limits and outside: a refusal leaves the buffers. */
 static void any_calls(void)
 {
     test_begin("parity of any numbers");

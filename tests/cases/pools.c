@@ -137,7 +137,7 @@ static void length_fields(void)
     test_end();
 }
 
-/* What the first so many bytes of three cards come to: whole cards, a rest of them, or what is no card behind them. */
+/* What the first so many bytes of three cards come to: whole cards, a rest of them, or what is no card after them. */
 static uint64_t cut_number(size_t length)
 {
     static const uint64_t whole[] = {LEGBARO_BAD_POOL, LEGBARO_BAD_POOL, LEGBARO_REJECTED, LEGBARO_OK};
@@ -186,7 +186,7 @@ static void every_length_of_replies(void)
 static void ids(void)
 {
     static const size_t counts[] = {2, 3, 16};
-    test_begin("an id twice, at every two places of a pool");
+    test_begin("an id twice, at every two positions of a pool");
     for (size_t i = 0; i < COUNT(counts); i++)
         for (size_t b = 0; b < counts[i]; b++)
             for (size_t a = 0; a < b; a++) {
@@ -200,7 +200,7 @@ static void ids(void)
 /* "Any open of 0 is 9": with each card's alone */
 static void not_drawn(void)
 {
-    test_begin("a card with no token drawn, at every place of a pool");
+    test_begin("a card with no token drawn, at every position of a pool");
     for (size_t count = 2; count <= LEGBARO_MOST_POOLED; count++)
         for (size_t e = 0; e < count; e++) {
             struct call call = judging(count);
@@ -260,7 +260,7 @@ static uint64_t cause_of(const struct call *pooling, size_t e)
     return LEGBARO_NUMBER(number);
 }
 
-/* Every byte of a single reply behind its header, altered in one of the files: the pool is accepted exactly where the single reply is. */
+/* Every byte of a single reply after its header, altered in one of the files: the pool is accepted exactly where the single reply is. */
 static void as_single(void)
 {
     test_begin("pools of replies of which one is altered, beside single judging");

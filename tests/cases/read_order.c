@@ -1,5 +1,5 @@
 /*
- * See cases.h. The blocks lie on pages that the program may not touch, a block to a page. At the first touch of a page the system tells of it: the
+ * See cases.h. The blocks lie on pages that the program may not touch, a block to a page. At the first touch of a page the system reports it: the
  * page is noted, and may be read from then on. So the order in which a call comes to its blocks is seen from outside.
  */
 #define _DEFAULT_SOURCE

@@ -8,7 +8,7 @@
 
 enum { B = 28, D = 5, R = 3, T = 3 };
 
-/* Expects a call of a kind on the file, with nothing wrong in its arguments, to be turned away with a code. */
+/* Expects a call of a kind on the file, with nothing wrong in its arguments, to be refused with a code. */
 static void refused(const struct file *file, enum kind kind, uint64_t code, const char *what)
 {
     struct call call = file_call(file, kind);
@@ -148,11 +148,11 @@ static void broken_hours(const struct file *file)
     call = file_call(file, DRAW);
     buffer_free(&call.args[PLAN]);
     call.args[PLAN] = schedule_blank();
-    call_finish(&call, LEGBARO_OUTSIDE_WINDOWS, "a plan without a window");
+    call_finish(&call, LEGBARO_OUTSIDE_WINDOWS, "a schedule without a window");
 
     call = file_call(file, DRAW);
     schedule_window(&call.args[PLAN], 6, LEGBARO_DAY_MINUTES, 0);
-    call_finish(&call, LEGBARO_OUT_OF_LIMITS, "a plan with minute 1,440");
+    call_finish(&call, LEGBARO_OUT_OF_LIMITS, "a schedule with minute 1,440");
 }
 
 /* Codes 18 and 19's small inputs, and code 2's of asks. */
@@ -186,7 +186,7 @@ static void counter_at_most(const struct file *file)
     call_finish(&call, LEGBARO_COUNTER_AT_MOST, "ctr, or last issued, 4,294,967,295");
 }
 
-/* Code 22's small inputs: roles without the right, and a number that is no role. */
+/* Code 22's small inputs: roles without permission, and a number that is no role. */
 static void without_right(const struct file *file)
 {
     static const struct {
@@ -196,12 +196,12 @@ static void without_right(const struct file *file)
     for (size_t i = 0; i < sizeof calls / sizeof *calls; i++) {
         struct call call = file_call(file, calls[i].kind);
         call.role = calls[i].role;
-        call_finish(&call, LEGBARO_NO_RIGHT, "a role without the right");
+        call_finish(&call, LEGBARO_NO_RIGHT, "a role without permission");
     }
 }
 
 /* Code 23's small inputs: no card, one card, a card twice. And two cards, of which the second has a length field of 42, is a byte short, has a
- * byte behind it, or no token drawn. */
+ * byte after it, or no token drawn. */
 static void broken_pools(const struct file *const *two)
 {
     const struct file *twice[] = {two[0], two[0]};
@@ -225,7 +225,7 @@ static void broken_pools(const struct file *const *two)
 
     call = pool_call(two, 2);
     buffer_resize(&call.args[CARDS], 2 * size + 1);
-    call_finish(&call, LEGBARO_WRONG_LENGTH, "a byte behind the cards");
+    call_finish(&call, LEGBARO_WRONG_LENGTH, "a byte after the cards");
 
     call = pool_call(two, 2);
     buffer_put_number(&call.args[CARDS], size + LEGBARO_CARD_OPEN, 4, 0);

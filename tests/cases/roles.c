@@ -1,4 +1,4 @@
-/* Who may do what: every call by every role, whatever else is lent. */
+/* Who may do what: every call by every role, whatever else is passed. */
 #include "cases.h"
 
 #include "support/chance.h"
@@ -65,32 +65,32 @@ static void expect_buffers(const struct call *call, const struct call *other, co
 
 /* The same call by every role: "Permitted calls answer as without roles", so all as the planner's does; to others 22, and every buffer stays.
  * Frees the call. */
-static void by_every_role(struct call *lent)
+static void by_every_role(struct call *passed)
 {
-    struct call planners = call_copy(lent);
+    struct call planners = call_copy(passed);
     planners.role = LEGBARO_PLANNER;
     uint64_t number = call_compare(&planners);
     for (size_t i = 0; i < COUNT(roles); i++) {
-        struct call call = call_copy(lent);
+        struct call call = call_copy(passed);
         call.role = roles[i];
         if (call_permits(call.kind, call.role)) {
             call_expect(&call, number, "permitted");
             expect_buffers(&call, &planners, "as the planner's");
         } else {
-            call_expect(&call, LEGBARO_NO_RIGHT, "without the right");
-            expect_buffers(&call, lent, "as they were");
+            call_expect(&call, LEGBARO_NO_RIGHT, "without permission");
+            expect_buffers(&call, passed, "as they were");
         }
         call_free(&call);
     }
     call_free(&planners);
-    call_free(lent);
+    call_free(passed);
 }
 
 /* "Role 1, surveyor, may append and load, or ask these; role 2, planner, everything; role 3, manager, draw, judge and ask the cause"; a pooled
  * reply is "judged by roles 2 and 3" */
-static void rights(void)
+static void permissions(void)
 {
-    test_begin("the rights of each role");
+    test_begin("the permissions of each role");
     for (enum kind kind = UPDATE; kind <= JUDGE_POOL; kind++) {
         int adding = unasked(kind) == APPEND || unasked(kind) == LOAD;
         int auditing = kind == DRAW || kind == JUDGE || kind == CAUSE || kind == JUDGE_POOL;
@@ -114,9 +114,9 @@ static void every_call(uint64_t version)
     test_end();
 }
 
-/* ---- Whatever else is lent ---- */
+/* ---- Whatever else is passed ---- */
 
-/* Alters a length or some bits of any buffer that a call is lent. */
+/* Alters a length or some bits of any buffer that a call takes. */
 static void disturb(struct call *call)
 {
     enum argument argument = (enum argument)chance_below(ARGUMENTS);
@@ -169,7 +169,7 @@ static void any_calls(void)
 
 void test_roles(void)
 {
-    rights();
+    permissions();
     for (uint64_t version = FIRST_VERSION; version <= LAST_VERSION; version++) {
         every_call(version);
         disturbed_calls(version);

@@ -197,7 +197,7 @@ static void random_sheets(void)
     test_end();
 }
 
-/* Any numbers at all, and any length, inside the limits and outside: what is turned away leaves the buffer. */
+/* Any numbers at all, and any length, inside the limits and outside: a refusal leaves the buffer. */
 static void any_calls(void)
 {
     static const uint64_t most[] = {LEGBARO_MOST_BLOCK_BYTES, LEGBARO_MOST_ROWS,   LEGBARO_MOST_POSITIONS,

@@ -35,7 +35,7 @@ uint64_t reference_set_up(const uint8_t *master, size_t master_length,
 
 /* ---- Draw ---- */
 
-/* "It refuses, before everything else", and behind 22, "a date or minute outside these (16), and after 3 a draw outside every window (17)";
+/* "It refuses, before everything else", and after 22, "a date or minute outside these (16), and after 3 a draw outside every window (17)";
  * "straight after 8, an ask, one-step change or draw while something is pending (18)" */
 uint64_t reference_draw_fault(uint64_t role, size_t master_length, const uint8_t *card, size_t card_length, size_t message_length,
                            const uint8_t *plan, size_t plan_length, const struct when *when)

@@ -3,7 +3,7 @@
 
 #include <stdlib.h>
 
-/* ---- What is turned away ---- */
+/* ---- Refusals ---- */
 
 /* "1 for sizes that follow from fields": of what is handed over. The lengths of a load and of a batch are looked at later. */
 static int handed_fits(const struct change *change, const struct card *c)
@@ -75,7 +75,7 @@ uint64_t bad_record(const uint8_t *master, const struct card *c, const uint8_t *
 
 /* ---- The blocks that are changed ---- */
 
-/* A change is a list of these. */
+/* A change is a list of block changes. */
 struct block_changes {
     struct block_change *list;
     size_t count;
@@ -93,7 +93,7 @@ static size_t block_change_count(const struct change *change, const struct card 
     }
 }
 
-/* Change e, from 0, of a change without a fault. */
+/* Block change e, from 0, of a change without a fault. */
 static struct block_change block_change_at(const struct change *change, const struct card *c, size_t e)
 {
     switch (change->kind) {
@@ -108,7 +108,7 @@ static struct block_change block_change_at(const struct change *change, const st
     }
 }
 
-/* The list of a change without a fault; its items are to be freed. */
+/* The block changes of a change without a fault; their list is to be freed. */
 static struct block_changes block_changes_of(const struct change *change, const struct card *c)
 {
     struct block_changes changes = {.count = block_change_count(change, c)};
@@ -121,8 +121,8 @@ static struct block_changes block_changes_of(const struct change *change, const 
 
 /* ---- Carrying a change out ---- */
 
-/* Opens an unused record, xors the hashes of old and new block into its token for every item whose row it draws, and seals it: "Every ask
- * takes the last issued plus 1". Answers the work: "a change walks back once for each of its blocks, altered or not, and each unused token,
+/* Opens an unused record, xors the hashes of old and new block into its token for every block change whose row it draws, and seals it: "Every ask
+ * takes the last issued plus 1". Answers the totals: "a change walks back once for each of its blocks, altered or not, and each unused token,
  * hashing old and new bytes where drawn" */
 static struct totals reseal(uint8_t *record, const struct card *c, uint64_t i, const struct block_changes *changes)
 {
@@ -132,20 +132,20 @@ static struct totals reseal(uint8_t *record, const struct card *c, uint64_t i, c
     must(open_record(record, c, i, token));
     draw_key_of(i, k);
     use_draw_key(k);
-    for (const struct block_change *item = changes->list; item < changes->list + changes->count; item++) {
-        struct walk walk = permuted_back(c->d, (item->m - 1) % c->d);
-        uint64_t j = walk.end + 1, index = (item->m - 1) / c->d * c->d + j;
+    for (const struct block_change *one = changes->list; one < changes->list + changes->count; one++) {
+        struct walk walk = permuted_back(c->d, (one->m - 1) % c->d);
+        uint64_t j = walk.end + 1, index = (one->m - 1) / c->d * c->d + j;
         totals.turns += walk.turns;
         if (j > c->r)
             continue;
         if (!have_hash_key)
             hash_key_of(i, hash_key);
         have_hash_key = 1;
-        if (item->old_block) {
-            mix_block(token, hash_key, index, mark_in(c->version, item->old_mark, 0), item->old_block, c->B);
+        if (one->old_block) {
+            mix_block(token, hash_key, index, mark_in(c->version, one->old_mark, 0), one->old_block, c->B);
             totals.hashes++;
         }
-        mix_block(token, hash_key, index, mark_in(c->version, item->new_mark, 0), item->new_block, c->B);
+        mix_block(token, hash_key, index, mark_in(c->version, one->new_mark, 0), one->new_block, c->B);
         totals.hashes++;
     }
     seal(record, c->version, c->last_issued + 1, i, token);

@@ -10,8 +10,8 @@
  *   batches.c       the items of a batch
  *   audits.c        set-up, draw, judge, cause, the host's proof
  *   pools.c         pooled replies: judged, and made by the host
- *   planning.c         positions, sheet
- *   schedule.c         the calendar, windows, wait
+ *   planning.c      positions, sheet
+ *   schedule.c      the calendar, windows, wait
  *   parity.c        parity: encode, rebuild
  */
 #ifndef PARTS_H
@@ -33,15 +33,15 @@ void must(int done);
 
 /* ---- records.c ---- */
 
-/* Writes a number as `width` bytes, big-endian, or bytes, and answers the place behind them. */
+/* Writes a number as `width` bytes, big-endian, or bytes, and answers the address after them. */
 uint8_t *put(uint8_t *at, unsigned width, uint64_t value);
 uint8_t *put_bytes(uint8_t *at, const uint8_t *bytes, size_t length);
 
-/* The number of `width` bytes, big-endian, or a copy of bytes; the place moves behind them. */
+/* The number of `width` bytes, big-endian, or a copy of bytes; the address moves past them. */
 uint64_t take(const uint8_t **at, unsigned width);
 void take_bytes(const uint8_t **at, uint8_t *bytes, size_t length);
 
-/* The length field and version of a record of `length` bytes in all: written, looked at, the version alone, and the place behind them. */
+/* The length field and version of a record of `length` bytes in all: written, looked at, the version alone, and the address after them. */
 uint8_t *put_head(uint8_t *at, size_t length, uint64_t version);
 int head_fits(const uint8_t *bytes, size_t length, uint64_t version);
 uint64_t version_in(const uint8_t *bytes);
@@ -50,7 +50,7 @@ const uint8_t *after_head(const uint8_t *bytes);
 struct message read_message(const uint8_t *bytes);
 void write_message(uint8_t *bytes, const struct message *m);
 
-/* Totals as they are lent. */
+/* Totals as bytes. */
 void write_totals(uint8_t *bytes, struct totals totals);
 
 /* Limits: of any number, of a version, of B, d and r together, of a message. */
@@ -90,7 +90,7 @@ void hash_key_of(uint64_t i, uint8_t *c);
 /* Xors SHA-256(c, index as four bytes, mark, block) into a token, or without a mark where that is null. */
 void mix_block(uint8_t *token, const uint8_t *c, uint64_t index, const uint8_t *mark, const uint8_t *block, size_t B);
 
-/* The numbers over which a token is reckoned; writes the token under k and c over n blocks, and answers the changes. In version 1 no marks are
+/* The numbers over which a token is computed; writes the token under k and c over n blocks, and answers the totals. In version 1 no marks are
  * read. */
 struct shape {
     uint64_t version, d, r, B, n;
@@ -101,7 +101,7 @@ struct totals digest(const uint8_t *k, const uint8_t *c, const struct shape *sha
 /* Mark number e, from 0, where a version has marks, null where it has none. */
 const uint8_t *mark_in(uint64_t version, const uint8_t *marks, uint64_t e);
 
-/* Record i of a table: its place, sealed with a token for a card's version at a counter, and whether it opens by the card, with its token
+/* Record i of a table: its address, sealed with a token for a card's version at a counter, and whether it opens by the card, with its token
  * where it does. */
 uint8_t *record_at(uint8_t *table, uint64_t i);
 void seal(uint8_t *record, uint64_t version, uint64_t ctr, uint64_t i, const uint8_t *token);
@@ -109,11 +109,11 @@ int open_record(const uint8_t *record, const struct card *c, uint64_t i, uint8_t
 
 /* ---- schedule.c ---- */
 
-/* Whether there is such a date and minute; whether the minutes of a plan are within the limits; the wait, WEEK for none. */
+/* Whether there is such a date and minute; whether the minutes of a schedule are within the limits; the wait, WEEK for none. */
 enum { DAY = 24 * 60, WEEK = 7 * DAY, WEEKDAYS = 7, PLAN_BYTES = WEEKDAYS * 2 * 2 };
 int when_fits(const struct when *when);
-int schedule_fits(const uint8_t *plan);
-uint64_t wait_for(const uint8_t *plan, const struct when *when);
+int schedule_fits(const uint8_t *schedule);
+uint64_t wait_for(const uint8_t *schedule, const struct when *when);
 
 /* ---- batches.c ---- */
 
@@ -145,7 +145,7 @@ struct change delete_change(uint64_t m, const uint8_t *old_block, size_t old_len
 uint64_t change_fault(const struct change *change, const struct card *c, size_t table_length);
 uint64_t bad_record(const uint8_t *master, const struct card *c, const uint8_t *table);
 
-/* Carries a change without a fault out on a table whose unused records open, at the counter behind the last issued. Writes the totals and
+/* Carries a change without a fault out on a table whose unused records open, at the counter after the last issued. Writes the totals and
  * answers the number of blocks after it. The file's keys are in use. */
 uint64_t carry_out(const struct change *change, const struct card *c, uint8_t *table, uint8_t *totals);
 

@@ -41,7 +41,7 @@ static uint64_t cut_fault(const uint8_t *cards, size_t length)
     return LEGBARO_OK;
 }
 
-/* Cards that can be cut, in turn: each one's numbers, while there is one; the place moves behind it. */
+/* Cards that can be cut, in turn: each one's numbers, while there is one; the address moves past it. */
 static int next_card(const uint8_t **at, const uint8_t *end, struct card *c)
 {
     if (*at == end)
@@ -112,8 +112,8 @@ uint64_t reference_pool_fault(uint64_t role, size_t master_length, const uint8_t
 
 /* ---- The verdict ---- */
 
-/* "every id, i and record passes as for single judging": whether those at a place do, with the token that the record holds; the place moves
- * behind them. */
+/* "every id, i and record passes as for single judging": whether those at an address do, with the token that the record holds; the address moves
+ * past them. */
 static int entry_passes(const uint8_t *master, const struct card *c, const uint8_t **at, uint8_t *token)
 {
     uint8_t id[LEGBARO_ID_BYTES];

@@ -5,7 +5,7 @@
 
 enum { LENGTH_FIELD = 2 };
 
-/* ---- Numbers and bytes, one behind the other ---- */
+/* ---- Numbers and bytes, one after the other ---- */
 
 uint8_t *put(uint8_t *at, unsigned width, uint64_t value)
 {

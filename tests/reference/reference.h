@@ -1,19 +1,21 @@
 /*
- * A reference implementation of the calls, over OpenSSL's libcrypto, to compare the library with. It follows the text of papers 01 and 02,
+ * The reference implementation of the calls, over OpenSSL's libcrypto, to compare the library with. It follows the text of papers 01 and 02,
  * shares no code with the library, and takes the papers' letters: B bytes in a block, d rows, r positions, t tokens, n blocks.
  *
- *   reference_start, reference_end                the contexts of libcrypto that all else here uses
- *   reference_set_up .. reference_parity_rebuild  the calls, with the arguments of legbaro.h
- *   struct card, reference_read_card, reference_write_card, reference_card_bytes   the numbers of a card, their bytes, and how many these are
- *   struct totals, reference_add_totals        the work of a call, and its sums
- *   reference_fresh_records                    the records of unused tokens, reckoned from the blocks
- *   struct change                             what a change hands over
- *   struct item, reference_item                an item of a batch
- *   reference_token                            the token in a record of a table
- *   struct when, reference_weekday             a date and minute, and the weekday of a date
- *   reference_change_fault .. reference_pool_fault    the code of a call that is turned away, 0 for none
- *   reference_verdict, reference_pool_verdict     0 or 11
- *   struct walk, reference_half_width, reference_permuted, reference_permuted_back   the permutation P
+ *   reference_start, reference_end         the contexts of libcrypto that all else here uses
+ *   reference_set_up .. _parity_rebuild    the calls, with the arguments of legbaro.h
+ *   struct card, reference_read_card, _write_card, _card_bytes
+ *                                          the numbers of a card, their bytes, and how many
+ *   struct totals, reference_add_totals    the totals of a call, and their sums
+ *   reference_fresh_records                the records of unused tokens, computed from the blocks
+ *   struct change                          what a change hands over
+ *   struct item, reference_item            an item of a batch
+ *   reference_token                        the token in a record of a table
+ *   struct when, reference_weekday         a date and minute, and the weekday of a date
+ *   reference_change_fault .. _pool_fault  the code of a refused call, 0 for none
+ *   reference_verdict, _pool_verdict       0 or 11
+ *   struct walk, reference_half_width, _permuted, _permuted_back
+ *                                          the permutation P
  */
 #ifndef REFERENCE_H
 #define REFERENCE_H
@@ -220,7 +222,7 @@ size_t reference_card_bytes(uint64_t version);
 struct card reference_read_card(const uint8_t *bytes);
 void reference_write_card(uint8_t *bytes, const struct card *c);
 
-/* Adds the work of a part to that of the whole. */
+/* Adds the totals of a part to those of the whole. */
 void reference_add_totals(struct totals *whole, struct totals part);
 
 /* Writes records `first` to `last` of a table: each token over the card's n blocks, with their marks but in version 1, sealed at the card's

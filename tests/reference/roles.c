@@ -1,4 +1,4 @@
-/* The reference implementation's rights of roles. See parts.h. */
+/* The reference implementation's permissions of roles. See parts.h. */
 #include "parts.h"
 
 enum { SURVEYOR = 1, PLANNER = 2, MANAGER = 3 };

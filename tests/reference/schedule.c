@@ -38,19 +38,19 @@ unsigned reference_weekday(const struct when *when)
 
 /* ---- Windows ---- */
 
-static void read_window(const uint8_t *plan, unsigned weekday, uint64_t *start, uint64_t *end)
+static void read_window(const uint8_t *schedule, unsigned weekday, uint64_t *start, uint64_t *end)
 {
-    const uint8_t *at = plan + weekday * PLAN_BYTES / WEEKDAYS;
+    const uint8_t *at = schedule + weekday * PLAN_BYTES / WEEKDAYS;
     *start = take(&at, 2);
     *end = take(&at, 2);
 }
 
 /* "Plan minutes above 1,439 are code 3" */
-int schedule_fits(const uint8_t *plan)
+int schedule_fits(const uint8_t *schedule)
 {
     for (unsigned weekday = 0; weekday < WEEKDAYS; weekday++) {
         uint64_t start, end;
-        read_window(plan, weekday, &start, &end);
+        read_window(schedule, weekday, &start, &end);
         if (start >= DAY || end >= DAY)
             return 0;
     }
@@ -59,12 +59,12 @@ int schedule_fits(const uint8_t *plan)
 
 /* Marks the minutes of the week, from Monday's first, that the windows allow: "start included, end excluded, empty when equal, running past
  * midnight when the end is smaller" */
-static void open_windows(const uint8_t *plan, uint8_t *allowed)
+static void open_windows(const uint8_t *schedule, uint8_t *allowed)
 {
     memset(allowed, 0, WEEK);
     for (unsigned weekday = 0; weekday < WEEKDAYS; weekday++) {
         uint64_t start, end;
-        read_window(plan, weekday, &start, &end);
+        read_window(schedule, weekday, &start, &end);
         if (end < start)
             end += DAY;
         for (uint64_t minute = start; minute < end; minute++)
@@ -73,11 +73,11 @@ static void open_windows(const uint8_t *plan, uint8_t *allowed)
 }
 
 /* "the wait in minutes for the first allowed one among the 10,080 that start with the given one, 10,080 for none" */
-uint64_t wait_for(const uint8_t *plan, const struct when *when)
+uint64_t wait_for(const uint8_t *schedule, const struct when *when)
 {
     uint8_t allowed[WEEK];
     uint64_t now = reference_weekday(when) * DAY + when->minute, wait = 0;
-    open_windows(plan, allowed);
+    open_windows(schedule, allowed);
     while (wait < WEEK && !allowed[(now + wait) % WEEK])
         wait++;
     return wait;

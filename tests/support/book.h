@@ -1,7 +1,7 @@
 /*
  * The plain book of paper 01: what a list of calls answers and leaves, kept as values. It is fed the set-up's arguments, then each
- * call's arguments without card and table, and nothing else. Of a pooled judging it is also fed the other cards, in their places, whatever
- * they hold: each as long as its length field tells.
+ * call's arguments without card and table, and nothing else. Of a pooled judging it is also fed the other cards, in their order, whatever
+ * they hold: each as long as its length field says.
  */
 #ifndef BOOK_H
 #define BOOK_H

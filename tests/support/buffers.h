@@ -1,4 +1,4 @@
-/* Byte buffers to lend to a call, each in room of its own with guard bytes on both sides. */
+/* Byte buffers for a call, each in room of its own with guard bytes on both sides. */
 #ifndef BUFFERS_H
 #define BUFFERS_H
 

@@ -4,7 +4,7 @@
 #include "expect.h"
 #include "dispatch.h"
 
-/* The buffers that each kind of call is lent, a bit for each, those among them that it writes, and the roles that may make it. */
+/* The buffers that each kind of call takes, a bit for each, those among them that it writes, and the roles that may make it. */
 #define BIT(argument) (1u << (argument))
 #define CHANGE (BIT(MASTER) | BIT(CARD) | BIT(TABLE) | BIT(TOTALS))
 #define ASK (CHANGE | BIT(SECOND))

@@ -1,4 +1,4 @@
-/* One call as a value: which it is, its numbers and the buffers lent to it. The library and the reference implementation can run it. */
+/* One call as a value: which it is, its numbers and its buffers. The library and the reference implementation can run it. */
 #ifndef CALLS_H
 #define CALLS_H
 
@@ -38,7 +38,7 @@ enum kind {
 /* The highest code of any call. */
 enum { LAST_CODE = LEGBARO_TOO_MANY_LOST };
 
-/* The buffers that calls are lent. A pooled judging is lent its reply as a judging is. */
+/* The buffers that calls take. A pooled judging takes its reply as a judging does. */
 enum argument {
     MASTER,
     ID,
@@ -64,7 +64,7 @@ enum argument {
 
 struct call {
     enum kind kind;
-    uint64_t role;                     /* of who makes a call that is lent a card, set-up apart */
+    uint64_t role;                     /* of who makes a call on a card, set-up apart */
     uint64_t version, B, d, r, t, n;   /* of a set-up and of a sheet; positions takes r, d and n; of parity B, the data
                                           blocks n and the parity blocks r */
     uint64_t m;                        /* the block number of an update or a deletion, asked too; the damaged rows of a sheet */
@@ -76,10 +76,10 @@ struct call {
 /* The call's name, for what is printed. */
 const char *call_name(enum kind kind);
 
-/* Whether calls of a kind are lent a buffer. */
+/* Whether calls of a kind take a buffer. */
 int call_takes(enum kind kind, enum argument argument);
 
-/* Whether a role may make calls of a kind; no role may where they are told none. */
+/* Whether a role may make calls of a kind; no role may where they take none. */
 int call_permits(enum kind kind, uint64_t role);
 
 /* Whether a kind is a change in one step, or an ask; a change asked, and the change that is asked. Kinds of other calls stay. */
@@ -102,7 +102,7 @@ uint64_t call_reference(struct call *call);
 
 /* Runs the call on the library, and a copy of it on the reference implementation. Expects the same number and the same bytes in every buffer;
  * buffers that the call does not write, and in a refusal all of them, to be as they were; guard bytes too. Answers the number.
- * `call_compare_by` runs the call by what it is given in the library's place. */
+ * `call_compare_by` runs the call by `run` instead of the library. */
 uint64_t call_compare(struct call *call);
 uint64_t call_compare_by(uint64_t (*run)(struct call *), struct call *call);
 

@@ -13,7 +13,7 @@ uint64_t chance_below(uint64_t bound);
 int chance_of(uint64_t bound);
 void chance_bytes(uint8_t *bytes, size_t length);
 
-/* Which of many numbered cases is tried behind case i: the next one, or after `chance_spare` one further on, `step` on the average. */
+/* Which of many numbered cases is tried after case i: the next one, or once `chance_spare` was called one further on, `step` on the average. */
 void chance_spare(void);
 uint64_t tried_after(uint64_t i, uint64_t step);
 

@@ -1,4 +1,4 @@
-/* How a call goes to the functions of an implementation: one dispatch, which differs only in what stands before and behind their names. */
+/* How a call goes to the functions of an implementation: one dispatch, which differs only in prefix and suffix of their names. */
 #ifndef DISPATCH_H
 #define DISPATCH_H
 

@@ -26,31 +26,31 @@ void call_at(struct call *call, const struct when *when)
 
 struct buffer schedule_blank(void)
 {
-    struct buffer plan = buffer_blank(LEGBARO_PLAN_BYTES);
-    memset(plan.bytes, 0, plan.length);
-    return plan;
+    struct buffer schedule = buffer_blank(LEGBARO_PLAN_BYTES);
+    memset(schedule.bytes, 0, schedule.length);
+    return schedule;
 }
 
-void schedule_window(struct buffer *plan, unsigned weekday, uint64_t start, uint64_t end)
+void schedule_window(struct buffer *schedule, unsigned weekday, uint64_t start, uint64_t end)
 {
-    buffer_put_number(plan, weekday * WINDOW_BYTES, 2, start);
-    buffer_put_number(plan, weekday * WINDOW_BYTES + 2, 2, end);
+    buffer_put_number(schedule, weekday * WINDOW_BYTES, 2, start);
+    buffer_put_number(schedule, weekday * WINDOW_BYTES + 2, 2, end);
 }
 
 struct buffer any_schedule(void)
 {
-    struct buffer plan = schedule_blank();
+    struct buffer schedule = schedule_blank();
     for (unsigned weekday = 0; weekday < WEEKDAYS; weekday++)
         if (!chance_of(3))
-            schedule_window(&plan, weekday, chance_below(LEGBARO_DAY_MINUTES), chance_below(LEGBARO_DAY_MINUTES));
-    return plan;
+            schedule_window(&schedule, weekday, chance_below(LEGBARO_DAY_MINUTES), chance_below(LEGBARO_DAY_MINUTES));
+    return schedule;
 }
 
 /* The window shuts at a later minute of the day, or runs past midnight; on the last minute of a day it always does. */
-void schedule_allow(struct buffer *plan, const struct when *when)
+void schedule_allow(struct buffer *schedule, const struct when *when)
 {
     uint64_t later = LEGBARO_DAY_MINUTES - 1 - when->minute;
     int past_midnight = later == 0 || (when->minute > 0 && chance_of(2));
     uint64_t start = past_midnight ? 1 + chance_below(when->minute) : chance_below(when->minute + 1);
-    schedule_window(plan, reference_weekday(when), start, past_midnight ? chance_below(start) : when->minute + 1 + chance_below(later));
+    schedule_window(schedule, reference_weekday(when), start, past_midnight ? chance_below(start) : when->minute + 1 + chance_below(later));
 }

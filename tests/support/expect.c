@@ -4,9 +4,9 @@
 #include <stdarg.h>
 #include <stdio.h>
 
-enum { TOLD = 5, NAME = 120 };
+enum { MOST_PRINTED = 5, NAME = 120 };
 
-static char group[NAME];
+static char test[NAME];
 static unsigned long checks, failures;
 static unsigned passed, failed;
 
@@ -14,7 +14,7 @@ void test_begin(const char *name, ...)
 {
     va_list words;
     va_start(words, name);
-    vsnprintf(group, sizeof group, name, words);
+    vsnprintf(test, sizeof test, name, words);
     va_end(words);
     checks = failures = 0;
 }
@@ -25,11 +25,11 @@ void expect(int holds, const char *what, ...)
     if (holds)
         return;
     failures++;
-    if (failures > TOLD)
+    if (failures > MOST_PRINTED)
         return;
     va_list words;
     va_start(words, what);
-    printf("     %s: expected: ", group);
+    printf("     %s: expected: ", test);
     vprintf(what, words);
     putchar('\n');
     va_end(words);
@@ -39,10 +39,10 @@ void test_end(void)
 {
     if (failures) {
         failed++;
-        printf("FAIL %s: %lu of %lu checks failed\n", group, failures, checks);
+        printf("FAIL %s: %lu of %lu checks failed\n", test, failures, checks);
     } else {
         passed++;
-        printf("ok   %s: %lu checks\n", group, checks);
+        printf("ok   %s: %lu checks\n", test, checks);
     }
     fflush(stdout);
 }

@@ -71,7 +71,7 @@ const struct field fault_fields[TARGETS] = {
     {IN(JUDGE_POOL), check, OF_CARD(0, target), value}, {IN(JUDGE_POOL), check, OF_CARD(1, target), value},                   \
         {IN(JUDGE_POOL), check, OF_CARD(2, target), value}
 
-/* `next` stands before `open`, what is pending behind other fields of the card, and lengths are last. */
+/* `next` stands before `open`, what is pending after other fields of the card, and lengths are last. */
 const struct fault faults[] = {
     {WITH_ROLE, PERMISSION, NUMBER_ROLE, 0},
     {WITH_ROLE, PERMISSION, NUMBER_ROLE, LEGBARO_MANAGER + 1},

@@ -1,5 +1,5 @@
 /*
- * The faults that a call may have, each with its place in the order of papers 01 and 02. They are made for calls on files with the numbers
+ * The faults that a call may have, each with the check that finds it, in the order of papers 01 and 02. They are made for calls on files with the numbers
  * below.
  */
 #ifndef FAULT_LIST_H
@@ -8,7 +8,7 @@
 #include "calls.h"
 
 /* The files have NOW_N blocks and the counter NOW_CTR where they are changed; in version 3 two asks were dropped. A load has LOADED blocks,
- * a batch has items on the blocks 2, 4 and 6. A pool has POOL_FILES, each of the version behind the one before's. R × D / N is 3.75. */
+ * a batch has items on the blocks 2, 4 and 6. A pool has POOL_FILES, each of the version after the one before's. R × D / N is 3.75. */
 enum { B = 28, D = 5, R = 3, T = 3, N = 4, NOW_N = N + 3, NOW_CTR = 2, LOADED = 3, POOL_FILES = 3, POSITIONS_ANSWER = 4 };
 enum { FIRST_ITEM = 2, MIDDLE_ITEM = 4, LAST_ITEM = 6 };
 
@@ -60,7 +60,7 @@ struct fault {
     uint64_t value;
 };
 
-/* A plan whose windows are open but for the last minute of each day, and a time in them. */
+/* A schedule whose windows are open but for the last minute of each day, and a time in them. */
 enum { YEAR = 2026, MONTH = 11, DAY = 16, MINUTE = 600, OPEN_UNTIL = LEGBARO_DAY_MINUTES - 1 };
 
 #define IN(kind) (1u << (kind))
@@ -80,10 +80,10 @@ void fault_make(struct call *call, const struct fault *fault, uint64_t version);
 /* What is wrong with a call of a kind on a file of a version from the start: asks and nothing pending, but in version 3. */
 enum check fault_at_start(enum kind kind, uint64_t version);
 
-/* The first place of two faults. A card with a token open and a change pending is outside its limits. */
+/* The check that finds the first of two faults. A card with a token open and a change pending is outside its limits. */
 enum check fault_first(const struct fault *a, const struct fault *b);
 
-/* The number that a call of a kind returns with a fault at this place and none at an earlier one. */
+/* The number that a call of a kind returns with a fault that this check finds and none that an earlier one finds. */
 uint64_t fault_number(enum check check, enum kind kind);
 
 #endif

@@ -17,7 +17,7 @@ static size_t pool_offset(enum argument argument, uint64_t version, size_t e)
     return offset;
 }
 
-/* Puts the first file's card or reply behind the last one's until there is one file too many, each with an id of its own. */
+/* Puts the first file's card or reply after the last one's until there is one file too many, each with an id of its own. */
 static void make_one_file_too_many(struct call *call, enum argument argument, uint64_t version)
 {
     struct buffer *b = &call->args[argument];

@@ -7,7 +7,7 @@
 
 #include <string.h>
 
-/* The most blocks of a load, and the most items of a batch, that is not told how many. */
+/* The most blocks of a load, and the most items of a batch, without a given number. */
 enum { A_FEW = 4 };
 
 /* A buffer of random bytes. */
@@ -137,7 +137,7 @@ static size_t a_few_items(const struct file *file)
     return 1 + chance_below(n < A_FEW ? n : A_FEW);
 }
 
-/* Lends a call any plan and any time that the plan allows. */
+/* Gives a call any schedule and any time that it allows. */
 static void set_draw_time(struct call *call)
 {
     struct when when = any_time();
@@ -216,7 +216,7 @@ struct call file_batch_of(const struct file *file, const uint64_t *blocks, size_
     return batch_call(file, items_of(file, blocks, items));
 }
 
-/* Gives a buffer of the file the bytes that a call left in its own, where the call was lent one of that length. */
+/* Gives a buffer of the file the bytes that a call left in its own, where the call has one of that length. */
 static void take_over(struct buffer *held, const struct buffer *left)
 {
     if (!left->bytes || left->length != held->length)

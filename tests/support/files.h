@@ -13,7 +13,7 @@ struct file {
     struct totals totals;    /* of set-up and every accepted change and ask */
 };
 
-/* Any of the versions; any role that may make calls of a kind, where they are told one. */
+/* Any of the versions; any role that may make calls of a kind, where they take one. */
 uint64_t any_version(void);
 uint64_t any_permitted(enum kind kind);
 
@@ -27,7 +27,7 @@ void file_end(struct file *file);
 
 /* A call on the file, those of pools apart, with nothing wrong in its arguments: any role that may make it; a change, asked or not, has a
  * block number that exists, present bytes and mark, and a random new block, a load a few random blocks, a batch a few items, an ask any
- * bytes where the second table is to be, a draw any plan and any time that it allows, a proof the message drawn last and the current blocks
+ * bytes where the second table is to be, a draw any schedule and any time that it allows, a proof the message drawn last and the current blocks
  * and marks, a judging, or the question for a cause, the reply of such a proof; and any bytes where totals are to be. The state may still
  * turn it away. */
 struct call file_call(const struct file *file, enum kind kind);
@@ -39,13 +39,13 @@ struct call file_block_call(const struct file *file, enum kind kind, uint64_t m)
 struct call file_load_call(const struct file *file, uint64_t blocks);
 
 /* A batch of updates and deletions, present bytes and marks and random new blocks: of so many blocks, at most one more than a batch may
- * have and no more than the file has, or of these blocks. A place in an item, counted from 0, where LEGBARO_ITEM_.. is the offset. */
+ * have and no more than the file has, or of these blocks. An offset in an item, counted from 0, where LEGBARO_ITEM_.. is the offset. */
 struct call file_batch_call(const struct file *file, size_t items);
 struct call file_batch_of(const struct file *file, const uint64_t *blocks, size_t items);
 size_t file_item_at(const struct file *file, size_t item, size_t offset);
 
 /* Runs a change, ask, commit, drop, draw or judging: compared with the reference implementation and with the book. The file takes the buffers
- * that it left, of a pool the card in its place, and with a commit the asked table for its own; the call is freed. Answers the number. */
+ * that it left, of a pool its own card, and with a commit the asked table for its own; the call is freed. Answers the number. */
 uint64_t file_run(struct file *file, struct call *call);
 
 /* `file_run` of `file_call`, of `file_load_call` and of `file_batch_call`, expected to be accepted. */

@@ -4,7 +4,7 @@
 
 #include "calls.h"
 
-/* An encoding of k random data blocks into p parity blocks. Bytes that are lent are as many as the numbers ask, where these are in limits. */
+/* An encoding of k random data blocks into p parity blocks. Its buffers are as long as the numbers ask, where these are in limits. */
 struct call parity_encoding(uint64_t B, uint64_t k, uint64_t p);
 
 /* A rebuilding of the group that an encoding gives by the reference implementation, with random bytes for the blocks that are lost. */

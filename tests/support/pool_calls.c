@@ -35,7 +35,7 @@ struct call pooling_call(const struct file *const *files, size_t count)
     return call;
 }
 
-/* Where card e of these files lies; after the last where it would be. */
+/* Where card e of these files lies; after the last, where it would be. */
 static size_t card_offset(const struct file *const *files, size_t e)
 {
     size_t offset = 0;
