@@ -1,20 +1,20 @@
 /*
- * Times set-up, proof, update, load and batch by each code of the archive and by the reference implementation over libcrypto, and a load, a
- * batch or an ask beside the calls in whose place it stands, and parity beside ISA-L; prints tables that can be pasted into docs/PERFORMANCE.md. What each code
- * writes is compared with the reference implementation first. A code that the processor can't run is left out.
+ * Times set-up, proof, update, load and batch by each variant of the archive and by the reference implementation over libcrypto, and a load, a
+ * batch or an ask beside the calls that it replaces, and parity beside ISA-L; prints tables that can be pasted into docs/PERFORMANCE.md. What each variant
+ * writes is compared with the reference implementation first. A variant that the processor can't run is left out.
  *
  * libcrypto uses the processor's SHA instructions where it has them; a helper shows what it does without them. In each row all alternate, and
  * the best of each counts.
  *
- *   --beside     the tables of calls beside those in whose place they stand, alone
+ *   --beside     the tables of calls beside those that they replace, alone
  *   --parity     the table of parity alone
- *   --headline   one great set-up in place of the tables, whole: as the archive chooses, by the plain code, and by the reference implementation
+ *   --headline   one great set-up instead of the tables, whole: as the archive chooses, by the plain one, and by the reference implementation
  */
 #define _XOPEN_SOURCE 700
 #include "asks.h"
 #include "batches.h"
 #include "support/chance.h"
-#include "codes.h"
+#include "variants.h"
 #include "support/files.h"
 #include "support/expect.h"
 #include "helper.h"
@@ -132,7 +132,7 @@ static double timed_by(int way, struct call *call, int row, unsigned calls)
     return way == WITHOUT_SHA ? helper_timed(row, calls) : timed(runs[way], call, measures[row].n, calls);
 }
 
-/* Nanoseconds for one call by each way, and 0 for a code that the processor can't run. */
+/* Nanoseconds for one call by each way, and 0 for a variant that the processor can't run. */
 struct times {
     double best[WAYS];
 };
@@ -146,10 +146,10 @@ static struct times measure(int row)
     unsigned calls[WAYS] = {0}, most = 0;
     call.m = 1;
     for (int way = 0; way < WAYS; way++) {
-        int code = way >= PLAIN && way <= CHOSEN;
-        if (code && !code_runs(runs[way], &call))
+        int ours = way >= PLAIN && way <= CHOSEN;
+        if (ours && !variant_runs(runs[way], &call))
             continue;
-        if (code)
+        if (ours)
             compare(runs[way], &call);
         calls[way] = calls_for(timed_by(way, &call, row, 1));
         most = calls[way] > most ? calls[way] : most;

@@ -1,7 +1,7 @@
 /* See pairs.h. */
 #include "pairs.h"
 
-#include "codes.h"
+#include "variants.h"
 #include "timing.h"
 
 #include <stdio.h>
@@ -23,11 +23,11 @@ static double timed_others(struct pair *pair, uint64_t (*run)(struct call *), un
     return timed(run, &pair->other, pair->n, calls) * pair->others;
 }
 
-/* One code's times, the one and the others alternating, the best of each. */
+/* One variant's times, the one and the others alternating, the best of each. */
 static struct both measure(struct pair *pair, uint64_t (*run)(struct call *))
 {
     struct both best = {0, 0};
-    if (!code_runs(run, &pair->call))
+    if (!variant_runs(run, &pair->call))
         return best;
     compare(run, &pair->call);
     compare(run, &pair->other);

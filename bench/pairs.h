@@ -1,4 +1,4 @@
-/* A call beside the calls in whose place it stands, timed in one run by each code. */
+/* A call beside the calls that it replaces, timed in one run by each variant. */
 #ifndef PAIRS_H
 #define PAIRS_H
 

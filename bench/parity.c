@@ -1,7 +1,7 @@
 /* See parity.h. ISA-L's Cauchy matrix has the weights of the parity calls, so that both write the same. */
 #include "parity.h"
 
-#include "codes.h"
+#include "variants.h"
 #include "support/expect.h"
 #include "support/parity_calls.h"
 #include "timing.h"
@@ -16,7 +16,7 @@ static const struct row {
     uint64_t B, k, p;
 } rows[] = {{4096, 10, 4}, {4096, 48, 16}, {64, 10, 4}, {64, 48, 16}};
 
-/* What the time of the code chosen, divided by ISA-L's, is to be at most for an encoding of blocks of 4,096 bytes. */
+/* What the time of the chosen variant, divided by ISA-L's, is to be at most for an encoding of blocks of 4,096 bytes. */
 static const double vector_goal = 4, portable_goal = 0.15;
 
 /* ---- ISA-L, on the same blocks ---- */
@@ -77,14 +77,14 @@ static uint64_t rebuild_portable(struct call *call)
 
 enum { VECTOR, PORTABLE, OURS, ALL = OURS + CHOSEN - PLAIN + 1 };
 
-/* The best of many times by each way, all alternating; 0 for a code that the processor can't run. ISA-L's vector code leaves the upper
+/* The best of many times by each way, all alternating; 0 for a variant that the processor can't run. ISA-L's vector code leaves the upper
  * halves of registers in use, which slows down plain code after it; a call of the library clears them. */
 static void measure(struct call *call, uint64_t (*const ways[ALL])(struct call *), double best[ALL])
 {
     unsigned calls[ALL];
     for (int way = 0; way < ALL; way++) {
         best[way] = 0;
-        if (way >= OURS && !code_runs(ways[way], call))
+        if (way >= OURS && !variant_runs(ways[way], call))
             continue;
         if (way >= OURS)
             compare(ways[way], call);

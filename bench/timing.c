@@ -2,7 +2,7 @@
 #define _XOPEN_SOURCE 700
 #include "timing.h"
 
-#include "codes.h"
+#include "variants.h"
 #include "support/expect.h"
 
 #include <stdio.h>

@@ -1,13 +1,13 @@
-/* See codes.h. */
+/* See variants.h. */
 #define _XOPEN_SOURCE 700
-#include "codes.h"
+#include "variants.h"
 
 #include "support/dispatch.h"
 
 #include <sys/wait.h>
 #include <unistd.h>
 
-/* The codes have the types of the calls that they stand for; choices.h is a line CALL(name, wide) for each. */
+/* The variants have the types of the calls that they stand for; choices.h is a line CALL(name, wide) for each. */
 #define CALL(name, wide) __typeof__(name) name##_x86_64, name##_avx2, name##_avx512;
 #include "choices.h"
 
@@ -26,7 +26,7 @@ uint64_t call_avx512(struct call *call)
     DISPATCH(legbaro, _avx512)
 }
 
-int code_runs(uint64_t (*run)(struct call *), const struct call *call)
+int variant_runs(uint64_t (*run)(struct call *), const struct call *call)
 {
     int status;
     pid_t child = fork();
