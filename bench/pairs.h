@@ -4,7 +4,8 @@
 
 #include "support/calls.h"
 
-/* The calls are accepted again and again on their own buffers. An update goes through the first n blocks. */
+/* The calls are accepted again and again on their own buffers. An update goes through the first n
+ * blocks. */
 struct pair {
     char one[32], beside[32]; /* what both are called in the table */
     struct call call, other;

@@ -1,14 +1,15 @@
 /* See proofs.h. */
 #include "proofs.h"
 
+#include "pairs.h"
 #include "support/chance.h"
 #include "support/files.h"
-#include "pairs.h"
 
 #include <stdio.h>
 #include <string.h>
 
-/* A proof of version 2; beside it one of version 1 with blocks of B + 1 bytes, which hashes as many bytes; and the goal. */
+/* A proof of version 2; beside it one of version 1 with blocks of B + 1 bytes, which hashes as many
+ * bytes; and the goal. */
 static const struct row {
     uint64_t B, d, r, n;
     double goal;
@@ -40,7 +41,8 @@ struct call proof_call(uint64_t version, uint64_t B, uint64_t d, uint64_t r, uin
 
 static struct pair pair_of(const struct row *row)
 {
-    struct pair pair = {.B = row->B, .d = row->d, .r = row->r, .t = 1, .n = row->n, .goal = row->goal, .others = 1};
+    struct pair pair = {
+        .B = row->B, .d = row->d, .r = row->r, .t = 1, .n = row->n, .goal = row->goal, .others = 1};
     pair.call = proof_call(LEGBARO_WITH_MARKS, row->B, row->d, row->r, row->n);
     pair.other = proof_call(LEGBARO_WITHOUT_MARKS, row->B + 1, row->d, row->r, row->n);
     snprintf(pair.one, sizeof pair.one, "version 2, %u blocks", (unsigned)row->n);
@@ -50,7 +52,8 @@ static struct pair pair_of(const struct row *row)
 
 void print_proofs(void)
 {
-    print_pairs_heading("A proof of version 2 beside one of version 1 with blocks one byte longer", "proof");
+    print_pairs_heading("A proof of version 2 beside one of version 1 with blocks one byte longer",
+                        "proof");
     for (size_t i = 0; i < sizeof rows / sizeof *rows; i++) {
         struct pair pair = pair_of(&rows[i]);
         print_pair(&pair);

@@ -1,4 +1,5 @@
-/* Proofs to be timed, and proofs of version 2 beside those of version 1 with blocks one byte longer. */
+/* Proofs to be timed, and proofs of version 2 beside those of version 1 with blocks one byte
+ * longer. */
 #ifndef PROOFS_H
 #define PROOFS_H
 

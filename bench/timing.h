@@ -12,8 +12,8 @@ extern uint64_t (*const runs[WAYS])(struct call *);
 /* In each row the ways alternate so many times, and the best counts. */
 enum { REPEATS = 40 };
 
-/* Nanoseconds for one of so many calls, after a short rest: a processor may run slower for a while after the widest variant. Updates go through
- * all n blocks. */
+/* Nanoseconds for one of so many calls, after a short rest: a processor may run slower for a while
+ * after the widest variant. Updates go through all n blocks. */
 double timed(uint64_t (*run)(struct call *), struct call *call, uint64_t n, unsigned calls);
 
 /* How many calls of so many nanoseconds are timed together. */

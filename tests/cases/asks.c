@@ -1,9 +1,10 @@
-/* Changes in two steps: ask and commit beside the change in one step, drops, what the host holds, and the last counters. */
+/* Changes in two steps: ask and commit beside the change in one step, drops, what the host holds,
+ * and the last counters. */
 #include "cases.h"
 
 #include "support/chance.h"
-#include "support/files.h"
 #include "support/expect.h"
+#include "support/files.h"
 
 #include <string.h>
 
@@ -42,9 +43,12 @@ static void both_ways(const struct file *file, struct call change)
     call_expect(&change, LEGBARO_OK, "in one step");
     call_expect(&ask, LEGBARO_OK, "asked");
     struct call commit = settled(COMMIT, &ask.args[CARD]), drop = settled(DROP, &ask.args[CARD]);
-    expect(buffer_same(&commit.args[CARD], &change.args[CARD]), "the card of the change in one step");
-    expect(buffer_same(&ask.args[SECOND], &change.args[TABLE]), "the table of the change in one step");
-    expect(buffer_same(&ask.args[TOTALS], &change.args[TOTALS]), "the totals of the change in one step");
+    expect(buffer_same(&commit.args[CARD], &change.args[CARD]),
+           "the card of the change in one step");
+    expect(buffer_same(&ask.args[SECOND], &change.args[TABLE]),
+           "the table of the change in one step");
+    expect(buffer_same(&ask.args[TOTALS], &change.args[TOTALS]),
+           "the totals of the change in one step");
     expect(buffer_same(&ask.args[TABLE], &file->table), "the standing table as it was");
     expect_one_more_issued(file, &drop.args[CARD]);
     call_free(&change);
@@ -65,7 +69,8 @@ static void every_kind(const struct file *file)
 /* With every number of tokens spent, after asks that were dropped and such that were committed. */
 static void with_spent(uint64_t bytes, uint64_t d)
 {
-    struct file file = file_set_up(LEGBARO_TWO_STEPS, bytes, d, 1 + chance_below(d), T, 1 + chance_below(2 * d));
+    struct file file =
+        file_set_up(LEGBARO_TWO_STEPS, bytes, d, 1 + chance_below(d), T, 1 + chance_below(2 * d));
     for (uint64_t spent = 0; spent <= T; spent++) {
         every_kind(&file);
         file_do(&file, (enum kind)(ASK_UPDATE + chance_below(5)));
@@ -100,7 +105,8 @@ static void with_bad_records(const struct file *file, enum kind kind)
 {
     for (uint64_t token = file->book.numbers.next; token <= T; token++) {
         struct call change = file_call(file, kind);
-        buffer_flip(&change.args[TABLE], 8 * (token - 1) * LEGBARO_RECORD_BYTES + chance_below(8 * LEGBARO_RECORD_BYTES));
+        buffer_flip(&change.args[TABLE], 8 * (token - 1) * LEGBARO_RECORD_BYTES +
+                                             chance_below(8 * LEGBARO_RECORD_BYTES));
         both_refused(change, LEGBARO_BAD_RECORD + 256 * token);
     }
 }
@@ -144,7 +150,8 @@ static void same_refusals(void)
 /* ---- What the host holds ---- */
 
 /* The cause of a reply that the host proves from a table; 0 where judge would accept it. */
-static void expect_cause(const struct file *file, const struct buffer *table, const struct buffer *blocks, uint64_t cause)
+static void expect_cause(const struct file *file, const struct buffer *table,
+                         const struct buffer *blocks, uint64_t cause)
 {
     struct call proof = file_call(file, PROVE), why = file_call(file, CAUSE);
     memcpy(proof.args[TABLE].bytes, table->bytes, table->length);
@@ -164,8 +171,8 @@ static void expect_bad_table(const struct file *file, const struct buffer *table
     both_refused(change, LEGBARO_BAD_RECORD + 256 * file->book.numbers.next);
 }
 
-/* After a drop the standing table is the one to prove from and to change; after a commit the asked one, and blocks that took the change
- * in. */
+/* After a drop the standing table is the one to prove from and to change; after a commit the asked
+ * one, and blocks that took the change in. */
 static void host_holds(enum kind ask)
 {
     struct file file = file_set_up(LEGBARO_TWO_STEPS, B, D, D, T, N);
@@ -204,7 +211,8 @@ static void hosts(void)
     test_end();
 }
 
-/* Asks made again and again after drops: each takes a counter of its own. With every token spent the table is copied whole. */
+/* Asks made again and again after drops: each takes a counter of its own. With every token spent
+ * the table is copied whole. */
 static void asked_again(void)
 {
     test_begin("the same change asked again after drops, with tokens unused and with none");
@@ -214,8 +222,10 @@ static void asked_again(void)
             file_audit(&file);
         for (uint64_t asks = 1; asks <= 9; asks++) {
             file_do(&file, ASK_BATCH);
-            expect(file.book.numbers.pending == asks && file.book.numbers.ctr == 0, "a counter of its own for each ask");
-            expect(buffer_same(&file.table, &file.asked) == (spent == T), "spent records alone are copied");
+            expect(file.book.numbers.pending == asks && file.book.numbers.ctr == 0,
+                   "a counter of its own for each ask");
+            expect(buffer_same(&file.table, &file.asked) == (spent == T),
+                   "spent records alone are copied");
             file_expect_book(&file);
             file_do(&file, DROP);
         }
@@ -246,7 +256,8 @@ static struct file with_issued(uint64_t ctr, uint64_t last_issued)
     return file;
 }
 
-/* The last ask is committed or dropped, whatever the counter; then no further one is taken, nor a change in one step. An audit is. */
+/* The last ask is committed or dropped, whatever the counter; then no further one is taken, nor a
+ * change in one step. An audit is. */
 static void last_ask(uint64_t ctr, enum kind settle)
 {
     struct file file = with_issued(ctr, LEGBARO_MOST_COUNTER - 1);

@@ -2,15 +2,24 @@
 #include "cases.h"
 
 #include "support/chance.h"
-#include "support/files.h"
 #include "support/expect.h"
+#include "support/files.h"
 
 #include <string.h>
 
-enum { B = 20, D = 5, R = 3, N = 4, SMALL_T = 5, MOST_T = 200, LARGER_FILES = 40, SETS_OF_EACH = 5 };
+enum {
+    B = 20,
+    D = 5,
+    R = 3,
+    N = 4,
+    SMALL_T = 5,
+    MOST_T = 200,
+    LARGER_FILES = 40,
+    SETS_OF_EACH = 5
+};
 
-/* How a record is damaged: in a bit of its clear bytes, of its sealed token or of its tag; its bytes are those from before the last
- * change; or any of these, each record in its own way. */
+/* How a record is damaged: in a bit of its clear bytes, of its sealed token or of its tag; its
+ * bytes are those from before the last change; or any of these, each record in its own way. */
 enum damage { CLEAR_BYTES, SEALED_BYTES, TAG, OLDER, ANY };
 
 static const struct {
@@ -55,7 +64,8 @@ static void end(struct held *held)
     buffer_free(&held->older);
 }
 
-static void damage_record(const struct held *held, struct buffer *table, uint64_t i, enum damage how)
+static void damage_record(const struct held *held, struct buffer *table, uint64_t i,
+                          enum damage how)
 {
     size_t at = (i - 1) * LEGBARO_RECORD_BYTES;
     if (how == ANY)
@@ -82,21 +92,26 @@ static void fetch_again(struct buffer *table, const struct buffer *sound, uint64
     memcpy(table->bytes + at, sound->bytes + at, sound->length - at);
 }
 
-/* Expects of an accepted change, asked or not, what the same change makes of the sound table, and spent records, damaged or not, as they
- * were before. */
-static void expect_mended(const struct call *call, const struct call *sound, const struct buffer *before, uint64_t next)
+/* Expects of an accepted change, asked or not, what the same change makes of the sound table, and
+ * spent records, damaged or not, as they were before. */
+static void expect_mended(const struct call *call, const struct call *sound,
+                          const struct buffer *before, uint64_t next)
 {
     size_t spent = (next - 1) * LEGBARO_RECORD_BYTES;
     enum argument written = is_ask(call->kind) ? SECOND : TABLE;
-    expect(buffer_same(&call->args[CARD], &sound->args[CARD]), "the card of the change on the sound table");
-    expect(memcmp(call->args[written].bytes + spent, sound->args[written].bytes + spent, before->length - spent) == 0,
+    expect(buffer_same(&call->args[CARD], &sound->args[CARD]),
+           "the card of the change on the sound table");
+    expect(memcmp(call->args[written].bytes + spent, sound->args[written].bytes + spent,
+                  before->length - spent) == 0,
            "the unused records of the change on the sound table");
-    expect(memcmp(call->args[written].bytes, before->bytes, spent) == 0, "spent records keep their bytes");
+    expect(memcmp(call->args[written].bytes, before->bytes, spent) == 0,
+           "spent records keep their bytes");
 }
 
-/* A change with the records of a set damaged: refused with the lowest unused one, if any, and accepted once the records from that number
- * on are fetched again. */
-static void damaged_set(const struct held *held, enum kind kind, const struct set *set, enum damage how)
+/* A change with the records of a set damaged: refused with the lowest unused one, if any, and
+ * accepted once the records from that number on are fetched again. */
+static void damaged_set(const struct held *held, enum kind kind, const struct set *set,
+                        enum damage how)
 {
     const struct card *numbers = &held->file.book.numbers;
     uint64_t lowest = lowest_unused(numbers, set);
@@ -106,7 +121,8 @@ static void damaged_set(const struct held *held, enum kind kind, const struct se
             damage_record(held, &call.args[TABLE], i, how);
     struct buffer before = buffer_copy(&call.args[TABLE]);
     call_expect(&sound, LEGBARO_OK, "the sound table");
-    call_expect(&call, lowest ? LEGBARO_BAD_RECORD + 256 * lowest : LEGBARO_OK, "the lowest unused damaged record");
+    call_expect(&call, lowest ? LEGBARO_BAD_RECORD + 256 * lowest : LEGBARO_OK,
+                "the lowest unused damaged record");
     if (lowest) {
         fetch_again(&call.args[TABLE], &held->file.table, lowest);
         call_expect(&call, LEGBARO_OK, "the records from that number on fetched again");
@@ -128,7 +144,8 @@ static enum kind any_change(const struct held *held)
     return (enum kind)(UPDATE + chance_below((uint64_t)last_change(held) + 1 - UPDATE));
 }
 
-/* Every set of records of a small file: all of it damaged in each way, and in any way in each change. */
+/* Every set of records of a small file: all of it damaged in each way, and in any way in each
+ * change. */
 static void every_set(const struct held *held)
 {
     uint64_t t = held->file.book.numbers.t, step = t < 3 ? 1 : 1 << (t - 2);
@@ -159,7 +176,9 @@ static void small_table(uint64_t version, uint64_t t)
 static void small_tables(void)
 {
     for (uint64_t t = 1; t <= SMALL_T; t++) {
-        test_begin("every set of damaged records in a table of %llu, fetched again from the reported number", (unsigned long long)t);
+        test_begin("every set of damaged records in a table of %llu, fetched again from the "
+                   "reported number",
+                   (unsigned long long)t);
         for (uint64_t version = FIRST_VERSION; version <= LAST_VERSION; version++)
             small_table(version, t);
         test_end();
@@ -190,7 +209,8 @@ static void larger_table(uint64_t t, uint64_t spent)
 
 static void larger_tables(void)
 {
-    test_begin("any set of damaged records in larger tables, fetched again from the reported number");
+    test_begin(
+        "any set of damaged records in larger tables, fetched again from the reported number");
     for (uint64_t i = 0; i < LARGER_FILES; i = tried_after(i, 8)) {
         uint64_t t = SMALL_T + 1 + chance_below(MOST_T - SMALL_T);
         larger_table(t, chance_below(t / 4 + 1));

@@ -2,8 +2,8 @@
 #include "cases.h"
 
 #include "support/chance.h"
-#include "support/files.h"
 #include "support/expect.h"
+#include "support/files.h"
 
 #include <string.h>
 
@@ -25,13 +25,15 @@ static void put_kinds(const struct file *file, struct call *batch, enum kinds ki
     struct buffer *items = &batch->args[ITEMS];
     if (kinds != MIXED)
         for (size_t at = 0; at < items->length; at += file_item_at(file, 1, 0))
-            items->bytes[at + LEGBARO_ITEM_KIND] = kinds == UPDATES ? LEGBARO_ITEM_UPDATE : LEGBARO_ITEM_DELETE;
+            items->bytes[at + LEGBARO_ITEM_KIND] =
+                kinds == UPDATES ? LEGBARO_ITEM_UPDATE : LEGBARO_ITEM_DELETE;
 }
 
 /* Batches of 1 to 64 items, one after the other, over d rows. */
 static void every_size(uint64_t B, uint64_t d, uint64_t r, enum kinds kinds)
 {
-    struct file file = file_set_up(any_version(), B, d, r, 2, LEGBARO_MOST_ITEMS + chance_below(2 * d));
+    struct file file =
+        file_set_up(any_version(), B, d, r, 2, LEGBARO_MOST_ITEMS + chance_below(2 * d));
     for (size_t items = 1; items <= LEGBARO_MOST_ITEMS; items++) {
         struct call batch = file_batch_call(&file, items);
         put_kinds(&file, &batch, kinds);
@@ -55,13 +57,16 @@ static void every_size_and_kind(void)
     test_end();
 }
 
-/* Batches of the most items, and of about half, over so many rows that a token draws few of the blocks, some or all. */
+/* Batches of the most items, and of about half, over so many rows that a token draws few of the
+ * blocks, some or all. */
 static void many_rows(void)
 {
-    static const uint64_t rows[][2] = {{64, 64}, {512, 512}, {600, 512}, {4096, 64}, {5000, 460}, {100000, 512}, {100000, 1}};
+    static const uint64_t rows[][2] = {{64, 64},    {512, 512},    {600, 512}, {4096, 64},
+                                       {5000, 460}, {100000, 512}, {100000, 1}};
     test_begin("batches over many rows");
     for (size_t i = 0; i < COUNT(rows); i++) {
-        struct file file = file_set_up(any_version(), 64, rows[i][0], rows[i][1], 4, rows[i][0] + chance_below(rows[i][0]));
+        struct file file = file_set_up(any_version(), 64, rows[i][0], rows[i][1], 4,
+                                       rows[i][0] + chance_below(rows[i][0]));
         for (size_t items = LEGBARO_MOST_ITEMS; items >= LEGBARO_MOST_ITEMS / 2 - 1; items -= 11)
             file_batch(&file, items);
         file_audit(&file);
@@ -73,7 +78,8 @@ static void many_rows(void)
 
 /* ---- Which blocks ---- */
 
-/* Batches of blocks first, first + step, first + 2 * step and so on, as many as there are, but no more than a batch takes. */
+/* Batches of blocks first, first + step, first + 2 * step and so on, as many as there are, but no
+ * more than a batch takes. */
 static void stepped(struct file *file, uint64_t first, uint64_t step)
 {
     uint64_t blocks[LEGBARO_MOST_ITEMS];
@@ -109,7 +115,8 @@ static void rows_and_ends(void)
     test_end();
 }
 
-/* A batch deletes blocks; then batches update and delete them again, and hand over zero bytes and the mark of a deleted block. */
+/* A batch deletes blocks; then batches update and delete them again, and hand over zero bytes and
+ * the mark of a deleted block. */
 static void deleted_again(uint64_t version, uint64_t B)
 {
     static const uint64_t blocks[] = {1, 3, 4, 8, 11};
@@ -150,18 +157,21 @@ static struct call single(const struct file *file, const struct buffer *items, s
     return call;
 }
 
-/* Expects two files, of one master, to have the same spent records, the same tokens in the unused ones, each at its own counter, and cards
- * that differ in the counter alone. */
+/* Expects two files, of one master, to have the same spent records, the same tokens in the unused
+ * ones, each at its own counter, and cards that differ in the counter alone. */
 static void expect_alike(const struct file *one, const struct file *other)
 {
     uint8_t token[TOKEN_BYTES], other_token[TOKEN_BYTES];
-    struct card numbers = reference_read_card(one->card.bytes), others = reference_read_card(other->card.bytes);
+    struct card numbers = reference_read_card(one->card.bytes),
+                others = reference_read_card(other->card.bytes);
     size_t spent = (numbers.next - 1) * LEGBARO_RECORD_BYTES;
     expect(memcmp(one->table.bytes, other->table.bytes, spent) == 0, "the same spent records");
     for (uint64_t i = numbers.next; i <= numbers.t; i++) {
-        int opened = reference_token(one->master.bytes, &numbers, one->table.bytes, i, token) &&
-                     reference_token(other->master.bytes, &others, other->table.bytes, i, other_token);
-        expect(opened && memcmp(token, other_token, sizeof token) == 0, "the same token %llu", (unsigned long long)i);
+        int opened =
+            reference_token(one->master.bytes, &numbers, one->table.bytes, i, token) &&
+            reference_token(other->master.bytes, &others, other->table.bytes, i, other_token);
+        expect(opened && memcmp(token, other_token, sizeof token) == 0, "the same token %llu",
+               (unsigned long long)i);
     }
     struct buffer card = buffer_copy(&one->card);
     numbers.ctr = others.ctr;
@@ -174,7 +184,8 @@ static void expect_alike(const struct file *one, const struct file *other)
 /* One set-up made twice, with tokens spent; a batch here, the same changes one by one there. */
 static void batch_and_singles(uint64_t B, uint64_t d, uint64_t spent, size_t items)
 {
-    struct call again = file_set_up_call(any_version(), B, d, 1 + chance_below(d), 5, LEGBARO_MOST_ITEMS + chance_below(d));
+    struct call again = file_set_up_call(any_version(), B, d, 1 + chance_below(d), 5,
+                                         LEGBARO_MOST_ITEMS + chance_below(d));
     struct file together = file_of(&again), singly = file_of(&again);
     for (uint64_t i = 0; i < spent; i++) {
         file_audit(&together);
@@ -186,7 +197,8 @@ static void batch_and_singles(uint64_t B, uint64_t d, uint64_t spent, size_t ite
         expect(file_run(&singly, &call) == LEGBARO_OK, "accepted");
     }
     run_batch(&together, batch);
-    expect(together.book.numbers.ctr == 1 && singly.book.numbers.ctr == items, "one step of the counter");
+    expect(together.book.numbers.ctr == 1 && singly.book.numbers.ctr == items,
+           "one step of the counter");
     expect(totals_same(together.totals, singly.totals), "the totals of all single changes");
     expect_alike(&together, &singly);
     file_expect_book(&together);
@@ -200,7 +212,8 @@ static void batches_and_singles(void)
 {
     test_begin("a batch and the same changes made singly leave the same tokens");
     for (size_t items = 1; items <= LEGBARO_MOST_ITEMS; items = tried_after(items, 6))
-        batch_and_singles(block_sizes[items % BLOCK_SIZES], 1 + chance_below(90), chance_below(6), items);
+        batch_and_singles(block_sizes[items % BLOCK_SIZES], 1 + chance_below(90), chance_below(6),
+                          items);
     test_end();
 }
 
@@ -231,7 +244,9 @@ static void new_bytes_of_deletions(void)
         put_kinds(&file, &batch, DELETIONS);
         struct call other = call_copy(&batch);
         for (size_t e = 0; e < 9; e++)
-            chance_bytes(other.args[ITEMS].bytes + file_item_at(&file, e, LEGBARO_ITEM_NEW(file.book.numbers.version, B)), B);
+            chance_bytes(other.args[ITEMS].bytes +
+                             file_item_at(&file, e, LEGBARO_ITEM_NEW(file.book.numbers.version, B)),
+                         B);
         call_expect(&batch, LEGBARO_OK, "accepted");
         call_expect(&other, LEGBARO_OK, "accepted");
         expect(buffer_same(&batch.args[CARD], &other.args[CARD]), "the same card");
@@ -245,13 +260,15 @@ static void new_bytes_of_deletions(void)
 
 /* ---- Faults ---- */
 
-/* What may be wrong with an item of a batch: its kind is 0 or 3; its number is that of the item before or after; its mark is 2 or 255; its
- * number is 0, or above n. In version 1 there is no mark, and the number is 0 instead. */
+/* What may be wrong with an item of a batch: its kind is 0 or 3; its number is that of the item
+ * before or after; its mark is 2 or 255; its number is 0, or above n. In version 1 there is no
+ * mark, and the number is 0 instead. */
 enum wrong { KIND_0, KIND_3, AS_BEFORE, AS_BEHIND, MARK_2, MARK_255, NUMBER_0, ABOVE_N, WRONGS };
 
 static void make_wrong(const struct file *file, struct buffer *items, size_t e, enum wrong wrong)
 {
-    size_t kind = file_item_at(file, e, LEGBARO_ITEM_KIND), block = file_item_at(file, e, LEGBARO_ITEM_BLOCK);
+    size_t kind = file_item_at(file, e, LEGBARO_ITEM_KIND),
+           block = file_item_at(file, e, LEGBARO_ITEM_BLOCK);
     size_t size = file_item_at(file, 1, 0);
     if (wrong == KIND_0 || wrong == KIND_3)
         buffer_put_number(items, kind, 1, wrong == KIND_0 ? 0 : 3);
@@ -259,28 +276,35 @@ static void make_wrong(const struct file *file, struct buffer *items, size_t e, 
         buffer_put_number(items, block, 4, buffer_number(items, block - size, 4));
     else if (wrong == AS_BEHIND && block + size < items->length)
         buffer_put_number(items, block, 4, buffer_number(items, block + size, 4));
-    else if ((wrong == MARK_2 || wrong == MARK_255) && file->book.numbers.version != LEGBARO_WITHOUT_MARKS)
+    else if ((wrong == MARK_2 || wrong == MARK_255) &&
+             file->book.numbers.version != LEGBARO_WITHOUT_MARKS)
         buffer_put_number(items, file_item_at(file, e, LEGBARO_ITEM_MARK(file->book.numbers.B)), 1,
                           wrong == MARK_2 ? 2 : UINT8_MAX);
     else
-        buffer_put_number(items, block, 4, wrong == AS_BEHIND || wrong == ABOVE_N ? file->book.numbers.n + 1 : 0);
+        buffer_put_number(items, block, 4,
+                          wrong == AS_BEHIND || wrong == ABOVE_N ? file->book.numbers.n + 1 : 0);
 }
 
-/* The code of items whose fields may be wrong: a kind or a number that does not rise before any mark, and a mark before any number that is
- * not there. */
+/* The code of items whose fields may be wrong: a kind or a number that does not rise before any
+ * mark, and a mark before any number that is not there. */
 static uint64_t code_of(const struct file *file, const struct buffer *items)
 {
     int form = 0, mark = 0, number = 0;
     uint64_t before = 0;
     for (size_t at = 0; at < items->length; at += file_item_at(file, 1, 0)) {
-        uint64_t kind = items->bytes[at + LEGBARO_ITEM_KIND], m = buffer_number(items, at + LEGBARO_ITEM_BLOCK, 4);
-        form |= (kind != LEGBARO_ITEM_UPDATE && kind != LEGBARO_ITEM_DELETE) || (at > 0 && m <= before);
+        uint64_t kind = items->bytes[at + LEGBARO_ITEM_KIND],
+                 m = buffer_number(items, at + LEGBARO_ITEM_BLOCK, 4);
+        form |=
+            (kind != LEGBARO_ITEM_UPDATE && kind != LEGBARO_ITEM_DELETE) || (at > 0 && m <= before);
         mark |= file->book.numbers.version != LEGBARO_WITHOUT_MARKS &&
                 items->bytes[at + LEGBARO_ITEM_MARK(file->book.numbers.B)] > LEGBARO_DELETED;
         number |= m == 0 || m > file->book.numbers.n;
         before = m;
     }
-    return form ? LEGBARO_BAD_BATCH : mark ? LEGBARO_BAD_MARK : number ? LEGBARO_NO_SUCH_BLOCK : LEGBARO_OK;
+    return form     ? LEGBARO_BAD_BATCH
+           : mark   ? LEGBARO_BAD_MARK
+           : number ? LEGBARO_NO_SUCH_BLOCK
+                    : LEGBARO_OK;
 }
 
 /* Something wrong in one item or two, first, in the middle or last. */
@@ -291,7 +315,8 @@ static void wrong_items(const struct file *file, size_t count)
         for (unsigned other = one; other < WRONGS * COUNT(indices); other++) {
             struct call batch = file_batch_call(file, count);
             make_wrong(file, &batch.args[ITEMS], indices[one / WRONGS], (enum wrong)(one % WRONGS));
-            make_wrong(file, &batch.args[ITEMS], indices[other / WRONGS], (enum wrong)(other % WRONGS));
+            make_wrong(file, &batch.args[ITEMS], indices[other / WRONGS],
+                       (enum wrong)(other % WRONGS));
             uint64_t code = code_of(file, &batch.args[ITEMS]);
             expect(code != LEGBARO_OK, "something is wrong");
             call_finish(&batch, code, "items that are wrong");
@@ -319,7 +344,8 @@ static void batch_lengths(uint64_t version)
     for (size_t length = 0; length <= 3 * size; length++) {
         struct call call = file_batch_call(&file, 3);
         buffer_resize(&call.args[ITEMS], length);
-        call_finish(&call, length > 0 && length % size == 0 ? LEGBARO_OK : LEGBARO_BAD_BATCH, "a batch's length");
+        call_finish(&call, length > 0 && length % size == 0 ? LEGBARO_OK : LEGBARO_BAD_BATCH,
+                    "a batch's length");
     }
     file_end(&file);
 }

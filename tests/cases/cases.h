@@ -2,7 +2,8 @@
 #ifndef CASES_H
 #define CASES_H
 
-/* The reference implementation's permutation on small d: one to one, undone backward in as many turns, with paper 01's half widths. */
+/* The reference implementation's permutation on small d: one to one, undone backward in as many
+ * turns, with paper 01's half widths. */
 void test_permutation(void);
 
 /* The small input of each refusal of papers 01 and 02, and what is taken at the edge. */
@@ -26,28 +27,35 @@ void test_batches(void);
 /* Versions that there are not, and the other versions where the file's is wanted. */
 void test_versions(void);
 
-/* Marks: their lengths and values, blocks of zeros beside deleted ones, and versions with marks beside version 1. */
+/* Marks: their lengths and values, blocks of zeros beside deleted ones, and versions with marks
+ * beside version 1. */
 void test_marks(void);
 
-/* Changes in two steps: ask and commit beside the change in one step, drops, what the host holds, and the last counters. */
+/* Changes in two steps: ask and commit beside the change in one step, drops, what the host holds,
+ * and the last counters. */
 void test_asks(void);
 
-/* Cards of version 3: their sizes, and the limits of what is pending, at, below and above their ends. */
+/* Cards of version 3: their sizes, and the limits of what is pending, at, below and above their
+ * ends. */
 void test_pending(void);
 
-/* Totals: what calls count beside what other calls count, and the bounds that a planner may quote. */
+/* Totals: what calls count beside what other calls count, and the bounds that a planner may
+ * quote. */
 void test_totals(void);
 
 /* Who may do what: every call by every role, whatever else is passed. */
 void test_roles(void);
 
-/* What a host can read from a reseal: equal clear bytes whatever was changed, and sealed ones that look unrelated. */
+/* What a host can read from a reseal: equal clear bytes whatever was changed, and sealed ones that
+ * look unrelated. */
 void test_indistinguishable(void);
 
-/* Why a reply is rejected: each cause alone and all sets of them, and no cause exactly where judge accepts. */
+/* Why a reply is rejected: each cause alone and all sets of them, and no cause exactly where judge
+ * accepts. */
 void test_causes(void);
 
-/* Pooled replies: of every number of files, cut and broken in every way, what the xor shows and what not, and lists on several files. */
+/* Pooled replies: of every number of files, cut and broken in every way, what the xor shows and
+ * what not, and lists on several files. */
 void test_pools(void);
 
 /* How many positions to draw of planned rows. */
@@ -56,7 +64,8 @@ void test_positions(void);
 /* Planning sheets: beside exact fractions, beside all draws of small files, at every edge. */
 void test_sheets(void);
 
-/* Parity: groups of every size beside ISA-L, every set of losses of small groups, damaged survivors, and lost blocks that are not read. */
+/* Parity: groups of every size beside ISA-L, every set of losses of small groups, damaged
+ * survivors, and lost blocks that are not read. */
 void test_parity(void);
 
 /* Every date of a hundred years, the wait for a window, and draws in and outside windows. */

@@ -1,9 +1,10 @@
-/* Why a reply is rejected: each cause alone and all sets of them, and no cause exactly where judge accepts. */
+/* Why a reply is rejected: each cause alone and all sets of them, and no cause exactly where judge
+ * accepts. */
 #include "cases.h"
 
 #include "support/chance.h"
-#include "support/files.h"
 #include "support/expect.h"
+#include "support/files.h"
 
 #include <string.h>
 
@@ -60,17 +61,21 @@ static uint64_t cause_of(const struct file *file, const struct buffer *reply)
     struct call judge = call_copy(&cause);
     judge.kind = JUDGE;
     uint64_t number = call_compare(&cause), verdict = call_compare(&judge);
-    expect(LEGBARO_CODE(number) == LEGBARO_OK && LEGBARO_NUMBER(number) <= LEGBARO_CAUSE_DIGEST, "a cause");
-    expect(verdict == (LEGBARO_NUMBER(number) == 0 ? LEGBARO_OK : LEGBARO_REJECTED), "no cause exactly where judge accepts");
+    expect(LEGBARO_CODE(number) == LEGBARO_OK && LEGBARO_NUMBER(number) <= LEGBARO_CAUSE_DIGEST,
+           "a cause");
+    expect(verdict == (LEGBARO_NUMBER(number) == 0 ? LEGBARO_OK : LEGBARO_REJECTED),
+           "no cause exactly where judge accepts");
     call_free(&cause);
     call_free(&judge);
     return LEGBARO_NUMBER(number);
 }
 
-static void expect_cause(const struct file *file, const struct buffer *reply, uint64_t cause, const char *what)
+static void expect_cause(const struct file *file, const struct buffer *reply, uint64_t cause,
+                         const char *what)
 {
     uint64_t found = cause_of(file, reply);
-    expect(found == cause, "%s: cause %llu, not %llu", what, (unsigned long long)cause, (unsigned long long)found);
+    expect(found == cause, "%s: cause %llu, not %llu", what, (unsigned long long)cause,
+           (unsigned long long)found);
 }
 
 /* The reply of an honest host. */
@@ -89,7 +94,8 @@ static void every_bit(const struct file *file)
     struct buffer reply = honest(file);
     expect_cause(file, &reply, 0, "an honest reply");
     for (int p = 0; p < PARTS; p++)
-        for (size_t bit = 8 * parts[p].at; bit < 8 * (parts[p].at + parts[p].length); bit = tried_after(bit, 5)) {
+        for (size_t bit = 8 * parts[p].at; bit < 8 * (parts[p].at + parts[p].length);
+             bit = tried_after(bit, 5)) {
             buffer_flip(&reply, bit);
             expect_cause(file, &reply, parts[p].cause, "one bit flipped");
             buffer_flip(&reply, bit);
@@ -104,7 +110,8 @@ static void every_length(const struct file *file)
     for (size_t length = 0; length <= 2 * LEGBARO_REPLY_BYTES; length = tried_after(length, 5)) {
         struct buffer reply = buffer_copy(&sound);
         buffer_resize(&reply, length);
-        expect_cause(file, &reply, length == LEGBARO_REPLY_BYTES ? 0 : LEGBARO_CAUSE_SIZE, "another length");
+        expect_cause(file, &reply, length == LEGBARO_REPLY_BYTES ? 0 : LEGBARO_CAUSE_SIZE,
+                     "another length");
         buffer_free(&reply);
     }
     buffer_free(&sound);
@@ -116,23 +123,28 @@ static uint64_t alter(struct buffer *reply, uint64_t set)
     uint64_t first = 0;
     for (int p = 0; p < PARTS; p++)
         if (set >> p & 1) {
-            reply->bytes[parts[p].at + chance_below(parts[p].length)] ^= (uint8_t)(1 + chance_below(255));
+            reply->bytes[parts[p].at + chance_below(parts[p].length)] ^=
+                (uint8_t)(1 + chance_below(255));
             first = first == 0 || parts[p].cause < first ? parts[p].cause : first;
         }
     return first;
 }
 
-/* Every set of parts altered, each in any of its bytes, and with it a length that is right, shorter or longer. */
+/* Every set of parts altered, each in any of its bytes, and with it a length that is right, shorter
+ * or longer. */
 static void every_set(const struct file *file)
 {
-    static const size_t lengths[] = {LEGBARO_REPLY_BYTES, LEGBARO_REPLY_BYTES - 1, LEGBARO_REPLY_BYTES + 1};
+    static const size_t lengths[] = {LEGBARO_REPLY_BYTES, LEGBARO_REPLY_BYTES - 1,
+                                     LEGBARO_REPLY_BYTES + 1};
     struct buffer sound = honest(file);
     for (uint64_t set = 0; set < 1u << PARTS; set = tried_after(set, 5))
         for (size_t l = 0; l < sizeof lengths / sizeof *lengths; l++) {
             struct buffer reply = buffer_copy(&sound);
             uint64_t first = alter(&reply, set);
             buffer_resize(&reply, lengths[l]);
-            expect_cause(file, &reply, lengths[l] == LEGBARO_REPLY_BYTES ? first : LEGBARO_CAUSE_SIZE, "the first of some causes");
+            expect_cause(file, &reply,
+                         lengths[l] == LEGBARO_REPLY_BYTES ? first : LEGBARO_CAUSE_SIZE,
+                         "the first of some causes");
             buffer_free(&reply);
         }
     buffer_free(&sound);
@@ -167,7 +179,8 @@ static void damaged_host(const struct file *file)
     buffer_free(&reply);
 }
 
-/* The reply to the message before, the reply of another file, and that of a host with the table from before the last change. */
+/* The reply to the message before, the reply of another file, and that of a host with the table
+ * from before the last change. */
 static void wrong_answers(uint64_t version)
 {
     struct file file = file_set_up(version, B, D, R, T, N), other = drawn(version);
@@ -182,7 +195,8 @@ static void wrong_answers(uint64_t version)
     struct call proof = file_call(&file, PROVE);
     memcpy(proof.args[TABLE].bytes, older.bytes, older.length);
     call_expect(&proof, LEGBARO_OK, "accepted");
-    expect_cause(&file, &proof.args[REPLY], LEGBARO_CAUSE_COUNTER, "a table from before the last change");
+    expect_cause(&file, &proof.args[REPLY], LEGBARO_CAUSE_COUNTER,
+                 "a table from before the last change");
     call_free(&proof);
     buffer_free(&before);
     buffer_free(&another);

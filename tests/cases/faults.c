@@ -1,16 +1,18 @@
 /* Every fault alone, and every two faults in one call, in the order of papers 01 and 02. */
 #include "cases.h"
 
+#include "support/draw_times.h"
+#include "support/expect.h"
 #include "support/fault_list.h"
 #include "support/files.h"
-#include "support/expect.h"
-#include "support/draw_times.h"
 #include "support/parity_calls.h"
 #include "support/pool_calls.h"
 
-/* Three files of one version on which only a fault turns a call away, as far as the version goes. On `changing`, for changes, asks and
- * draws, token 1 is spent; on `judging`, for judgings, causes and proofs, token 2 is drawn; on `settling`, for commits and drops, a load is
- * pending in version 3. And a pooled judging and a pooling that would be accepted, of files of all versions, this one first. */
+/* Three files of one version on which only a fault turns a call away, as far as the version goes.
+ * On `changing`, for changes, asks and draws, token 1 is spent; on `judging`, for judgings, causes
+ * and proofs, token 2 is drawn; on `settling`, for commits and drops, a load is pending in version
+ * 3. And a pooled judging and a pooling that would be accepted, of files of all versions, this one
+ * first. */
 static struct file changing, judging, settling;
 static struct call judging_pool, pooling;
 static uint64_t version;
@@ -49,7 +51,8 @@ static struct call open_wait(void)
 static struct call rebuilding(void)
 {
     static const uint8_t lost[LOST_BLOCKS] = {FIRST_LOST_BLOCK, LAST_LOST_BLOCK};
-    struct call encoding = parity_encoding(B, N, LOST_BLOCKS), call = parity_rebuilding(&encoding, lost, LOST_BLOCKS);
+    struct call encoding = parity_encoding(B, N, LOST_BLOCKS),
+                call = parity_rebuilding(&encoding, lost, LOST_BLOCKS);
     call_free(&encoding);
     return call;
 }
@@ -63,7 +66,8 @@ static struct call faultless_ask(enum kind kind)
     return ask;
 }
 
-/* A call that would be accepted, as far as the version goes. The table of a proof is just long enough. */
+/* A call that would be accepted, as far as the version goes. The table of a proof is just long
+ * enough. */
 static struct call faultless(enum kind kind)
 {
     static const uint64_t items[] = {FIRST_ITEM, MIDDLE_ITEM, LAST_ITEM};
@@ -91,7 +95,8 @@ static struct call faultless(enum kind kind)
         return faultless_ask(kind);
     if (kind == COMMIT || kind == DROP)
         return file_call(&settling, kind);
-    struct call call = file_call(kind == JUDGE || kind == CAUSE || kind == PROVE ? &judging : &changing, kind);
+    struct call call =
+        file_call(kind == JUDGE || kind == CAUSE || kind == PROVE ? &judging : &changing, kind);
     if (kind == DRAW)
         at_an_open_hour(&call);
     if (kind == PROVE)
@@ -123,7 +128,8 @@ static void two_faults(enum kind kind, const struct fault *a, const struct fault
 
 static void every_fault(enum kind kind)
 {
-    test_begin("every fault of %s alone, version %llu", call_name(kind), (unsigned long long)version);
+    test_begin("every fault of %s alone, version %llu", call_name(kind),
+               (unsigned long long)version);
     struct call call = faultless(kind);
     finish(&call, NO_FAULT, "no fault");
     for (int a = 0; a < fault_count; a++)
@@ -134,7 +140,8 @@ static void every_fault(enum kind kind)
 
 static void every_two_faults(enum kind kind)
 {
-    test_begin("every two faults of %s in their order, version %llu", call_name(kind), (unsigned long long)version);
+    test_begin("every two faults of %s in their order, version %llu", call_name(kind),
+               (unsigned long long)version);
     for (int a = 0; a < fault_count; a++)
         for (int b = a + 1; b < fault_count; b++)
             if (fault_has(&faults[a], kind, version) && fault_has(&faults[b], kind, version) &&

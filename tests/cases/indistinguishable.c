@@ -1,9 +1,10 @@
-/* What a host can read from a reseal: the table that is sent to it, whatever blocks were changed and whatever tokens cover them. */
+/* What a host can read from a reseal: the table that is sent to it, whatever blocks were changed
+ * and whatever tokens cover them. */
 #include "cases.h"
 
 #include "support/chance.h"
-#include "support/files.h"
 #include "support/expect.h"
+#include "support/files.h"
 
 #include <string.h>
 
@@ -27,32 +28,37 @@ static int same_bytes(const struct call *a, const struct call *b, uint64_t i, si
     return !memcmp(record(sent(a), i), record(sent(b), i), bytes);
 }
 
-/* Writes the token that an accepted change left in record i, which opens at the counter that the change took. */
+/* Writes the token that an accepted change left in record i, which opens at the counter that the
+ * change took. */
 static void token_left(const struct call *change, uint64_t i, uint8_t *token)
 {
     struct card after = reference_read_card(change->args[CARD].bytes);
     after.ctr = after.last_issued;
-    expect(reference_token(change->args[MASTER].bytes, &after, sent(change)->bytes, i, token), "record %llu opens", (unsigned long long)i);
+    expect(reference_token(change->args[MASTER].bytes, &after, sent(change)->bytes, i, token),
+           "record %llu opens", (unsigned long long)i);
 }
 
-/* "returned number, card and the first 15 bytes of every unused record come out equal": of two changes, on a card with these numbers, that
- * were both accepted and leave equally many blocks. */
+/* "returned number, card and the first 15 bytes of every unused record come out equal": of two
+ * changes, on a card with these numbers, that were both accepted and leave equally many blocks. */
 static void expect_silent(const struct card *c, const struct call *a, const struct call *b)
 {
     expect(buffer_same(&a->args[CARD], &b->args[CARD]), "equal cards");
     expect(sent(a)->length == sent(b)->length, "tables of one length");
     for (uint64_t i = c->next; i <= c->t; i++)
-        expect(same_bytes(a, b, i, CLEAR_BYTES), "equal clear bytes of record %llu", (unsigned long long)i);
+        expect(same_bytes(a, b, i, CLEAR_BYTES), "equal clear bytes of record %llu",
+               (unsigned long long)i);
 }
 
-/* "under one master an unused record left with an equal token in both is equal whole"; with another token it is not. */
+/* "under one master an unused record left with an equal token in both is equal whole"; with another
+ * token it is not. */
 static void expect_records(const struct card *c, const struct call *a, const struct call *b)
 {
     uint8_t left_by_a[TOKEN_BYTES], left_by_b[TOKEN_BYTES];
     for (uint64_t i = c->next; i <= c->t; i++) {
         token_left(a, i, left_by_a);
         token_left(b, i, left_by_b);
-        expect(same_bytes(a, b, i, LEGBARO_RECORD_BYTES) == !memcmp(left_by_a, left_by_b, TOKEN_BYTES),
+        expect(same_bytes(a, b, i, LEGBARO_RECORD_BYTES) ==
+                   !memcmp(left_by_a, left_by_b, TOKEN_BYTES),
                "record %llu equal exactly where its token is", (unsigned long long)i);
     }
 }
@@ -80,12 +86,15 @@ static struct {
 } altered;
 
 /* Counts the records in which a change differs from one that altered nothing. */
-static void count_altered(const struct card *c, const struct call *nothing, const struct call *change)
+static void count_altered(const struct card *c, const struct call *nothing,
+                          const struct call *change)
 {
     uint64_t different = 0;
     for (uint64_t i = c->next; i <= c->t; i++)
         different += !same_bytes(nothing, change, i, LEGBARO_RECORD_BYTES);
-    *(different == 0 ? &altered.none : different == c->t + 1 - c->next ? &altered.all : &altered.some) += 1;
+    *(different == 0                    ? &altered.none
+      : different == c->t + 1 - c->next ? &altered.all
+                                        : &altered.some) += 1;
 }
 
 /* A change on a copy, beside one that altered nothing. */
@@ -100,8 +109,10 @@ static void beside(const struct file *file, const struct call *nothing, struct c
     call_free(&change);
 }
 
-/* Makes a change in one step and, where the version has asks, asked: each beside a change of its way that altered nothing. */
-static void both_ways(const struct file *file, const struct call *nothing, const struct call *nothing_asked, struct call change)
+/* Makes a change in one step and, where the version has asks, asked: each beside a change of its
+ * way that altered nothing. */
+static void both_ways(const struct file *file, const struct call *nothing,
+                      const struct call *nothing_asked, struct call change)
 {
     if (file->book.numbers.version == LEGBARO_TWO_STEPS)
         beside(file, nothing_asked, call_asked(&change));
@@ -112,7 +123,8 @@ static void both_ways(const struct file *file, const struct call *nothing, const
 static void every_block(const struct file *file)
 {
     uint64_t n = file->book.numbers.n, most = n < LEGBARO_MOST_ITEMS ? n : LEGBARO_MOST_ITEMS;
-    struct call nothing = unaltered(file, 1 + chance_below(n)), nothing_asked = call_asked(&nothing);
+    struct call nothing = unaltered(file, 1 + chance_below(n)),
+                nothing_asked = call_asked(&nothing);
     call_expect(&nothing, LEGBARO_OK, "accepted");
     if (file->book.numbers.version == LEGBARO_TWO_STEPS)
         call_expect(&nothing_asked, LEGBARO_OK, "asked");
@@ -147,8 +159,9 @@ static void covering_or_not(void)
             with_spent(version, d, 1 + chance_below(d));
             with_spent(version, d, d);
         }
-    expect(altered.none && altered.some && altered.all, "changes that alter no token, some and all: %u, %u and %u", altered.none,
-           altered.some, altered.all);
+    expect(altered.none && altered.some && altered.all,
+           "changes that alter no token, some and all: %u, %u and %u", altered.none, altered.some,
+           altered.all);
     test_end();
 }
 
@@ -168,11 +181,13 @@ static struct file other_file(const struct call *set_up)
 /* Two files whose cards are equal all along: "whatever sound tables". */
 static void of_two_files(uint64_t version, uint64_t d)
 {
-    struct call set_up = file_set_up_call(version, B, d, 1 + chance_below(d), T, d + chance_below(d));
+    struct call set_up =
+        file_set_up_call(version, B, d, 1 + chance_below(d), T, d + chance_below(d));
     struct file one = file_of(&set_up), other = other_file(&set_up);
     for (uint64_t spent = 0; spent <= T; spent++) {
         struct call a = file_call(&one, UPDATE), b = file_call(&other, UPDATE);
-        expect(buffer_same(&one.card, &other.card) && !buffer_same(&one.table, &other.table), "equal cards, other tables");
+        expect(buffer_same(&one.card, &other.card) && !buffer_same(&one.table, &other.table),
+               "equal cards, other tables");
         call_expect(&a, LEGBARO_OK, "accepted");
         call_expect(&b, LEGBARO_OK, "accepted");
         expect_silent(&one.book.numbers, &a, &b);
@@ -200,7 +215,8 @@ static void other_tables(void)
 
 /* ---- The sealed bytes ---- */
 
-/* In how many reseals a bit of a record's sealed bytes was set, and in how many it was another than in the reseal before. */
+/* In how many reseals a bit of a record's sealed bytes was set, and in how many it was another than
+ * in the reseal before. */
 enum { RESEALS = 1000, LEAST = RESEALS * 2 / 5, MOST = RESEALS * 3 / 5 };
 
 struct tally {
@@ -212,7 +228,8 @@ static unsigned sealed_bit(const struct buffer *table, uint64_t i, unsigned bit)
     return record(table, i)[CLEAR_BYTES + bit / 8] >> bit % 8 & 1;
 }
 
-static void count_bits(struct tally *tally, const struct buffer *before, const struct buffer *after, uint64_t i)
+static void count_bits(struct tally *tally, const struct buffer *before, const struct buffer *after,
+                       uint64_t i)
 {
     for (unsigned bit = 0; bit < SEALED_BITS; bit++) {
         unsigned now = sealed_bit(after, i, bit);
@@ -231,11 +248,12 @@ static void expect_unrelated(const struct tally *tally, uint64_t i)
 {
     for (unsigned bit = 0; bit < SEALED_BITS; bit++)
         expect(between(LEAST, tally->set[bit], MOST) && between(LEAST, tally->turned[bit], MOST),
-               "record %llu, sealed bit %u: set in %u reseals and turned in %u", (unsigned long long)i, bit, tally->set[bit],
-               tally->turned[bit]);
+               "record %llu, sealed bit %u: set in %u reseals and turned in %u",
+               (unsigned long long)i, bit, tally->set[bit], tally->turned[bit]);
 }
 
-/* Whether token i covers block m: an update of m that alters the block leaves another record than one that does not. */
+/* Whether token i covers block m: an update of m that alters the block leaves another record than
+ * one that does not. */
 static int covers(const struct file *file, uint64_t m, uint64_t i)
 {
     struct call same = unaltered(file, m), other = file_block_call(file, UPDATE, m);
@@ -247,7 +265,8 @@ static int covers(const struct file *file, uint64_t m, uint64_t i)
     return answer;
 }
 
-/* One block is updated over and over, every other time to what it is. Some tokens cover it and some do not. */
+/* One block is updated over and over, every other time to what it is. Some tokens cover it and some
+ * do not. */
 static void sealed_bytes(uint64_t version)
 {
     enum { D = 2, M = 1, TOKENS = 12 };
@@ -257,7 +276,8 @@ static void sealed_bytes(uint64_t version)
     unsigned covering = 0;
     for (uint64_t i = 1; i <= TOKENS; i++)
         covering += (unsigned)covers(&file, M, i);
-    expect(0 < covering && covering < TOKENS, "tokens that cover a block and tokens that do not, %u of %d", covering, TOKENS);
+    expect(0 < covering && covering < TOKENS,
+           "tokens that cover a block and tokens that do not, %u of %d", covering, TOKENS);
     for (unsigned reseal = 0; reseal < RESEALS; reseal++) {
         struct buffer before = buffer_copy(&file.table);
         struct call update = reseal % 2 ? unaltered(&file, M) : file_block_call(&file, UPDATE, M);

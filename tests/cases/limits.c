@@ -1,8 +1,8 @@
 /* Files with the most of each number. */
 #include "cases.h"
 
-#include "support/files.h"
 #include "support/expect.h"
+#include "support/files.h"
 
 #include <string.h>
 
@@ -49,7 +49,8 @@ static void follow_book(struct file *file)
 static void most_rows(uint64_t version)
 {
     test_begin("the most rows and positions, version %llu", (unsigned long long)version);
-    struct file file = file_set_up(version, 1, LEGBARO_MOST_ROWS, LEGBARO_MOST_POSITIONS, 2, LEGBARO_MOST_ROWS);
+    struct file file =
+        file_set_up(version, 1, LEGBARO_MOST_ROWS, LEGBARO_MOST_POSITIONS, 2, LEGBARO_MOST_ROWS);
     round_of_calls(&file);
     file_end(&file);
     test_end();
@@ -58,8 +59,8 @@ static void most_rows(uint64_t version)
 static void most_block_bytes(uint64_t version)
 {
     test_begin("the most bytes in a block, version %llu", (unsigned long long)version);
-    struct file file = file_set_up(version, LEGBARO_MOST_BLOCK_BYTES, LEGBARO_MOST_POSITIONS + 1, LEGBARO_MOST_POSITIONS, 2,
-                                   LEGBARO_MOST_POSITIONS);
+    struct file file = file_set_up(version, LEGBARO_MOST_BLOCK_BYTES, LEGBARO_MOST_POSITIONS + 1,
+                                   LEGBARO_MOST_POSITIONS, 2, LEGBARO_MOST_POSITIONS);
     file_batch(&file, LEGBARO_MOST_ITEMS);
     round_of_calls(&file);
     file_end(&file);
@@ -116,12 +117,14 @@ static void full(struct file *file)
     file_expect_book(file);
 }
 
-/* Set up with all but a few blocks, and filled by appends and loads; a load one past the most is refused. */
+/* Set up with all but a few blocks, and filled by appends and loads; a load one past the most is
+ * refused. */
 static void most_blocks(uint64_t version)
 {
     enum { LEFT = 50 };
     test_begin("the most blocks, filled by loads, version %llu", (unsigned long long)version);
-    struct file file = file_set_up(version, 1, LEGBARO_MOST_ROWS, LEGBARO_MOST_POSITIONS, 2, LEGBARO_MOST_BLOCKS - LEFT);
+    struct file file = file_set_up(version, 1, LEGBARO_MOST_ROWS, LEGBARO_MOST_POSITIONS, 2,
+                                   LEGBARO_MOST_BLOCKS - LEFT);
     load_refused(&file, LEFT + 1, LEGBARO_FILE_FULL);
     file_do(&file, APPEND);
     file_load(&file, LEFT - 3);
@@ -136,7 +139,8 @@ static void most_blocks(uint64_t version)
 static void most_blocks_at_once(uint64_t version)
 {
     test_begin("the most blocks at set-up, version %llu", (unsigned long long)version);
-    struct file file = file_set_up(version, 1, LEGBARO_MOST_ROWS, LEGBARO_MOST_POSITIONS, 2, LEGBARO_MOST_BLOCKS);
+    struct file file =
+        file_set_up(version, 1, LEGBARO_MOST_ROWS, LEGBARO_MOST_POSITIONS, 2, LEGBARO_MOST_BLOCKS);
     full(&file);
     file_end(&file);
     struct call call = file_set_up_call(version, 1, 2, 2, 1, LEGBARO_MOST_BLOCKS + 1);
@@ -147,7 +151,8 @@ static void most_blocks_at_once(uint64_t version)
 /* A file planned for the most rows, with one block, then all other rows in one load. */
 static void most_rows_loaded(uint64_t version)
 {
-    test_begin("the most rows, all but one filled by one load, version %llu", (unsigned long long)version);
+    test_begin("the most rows, all but one filled by one load, version %llu",
+               (unsigned long long)version);
     struct file file = file_set_up(version, 1, LEGBARO_MOST_ROWS, LEGBARO_MOST_POSITIONS, 2, 1);
     round_of_calls(&file);
     file_load(&file, LEGBARO_MOST_ROWS - file.book.numbers.n);
@@ -166,7 +171,8 @@ static void most_counter(uint64_t version)
     file_do(&file, APPEND);
     for (int kind = UPDATE; kind <= BATCH; kind++) {
         refused(&file, (enum kind)kind, LEGBARO_COUNTER_AT_MOST);
-        refused(&file, asked((enum kind)kind), version == LEGBARO_TWO_STEPS ? LEGBARO_COUNTER_AT_MOST : LEGBARO_WRONG_HEADER);
+        refused(&file, asked((enum kind)kind),
+                version == LEGBARO_TWO_STEPS ? LEGBARO_COUNTER_AT_MOST : LEGBARO_WRONG_HEADER);
     }
     file_audit(&file);
     file_expect_book(&file);

@@ -1,16 +1,22 @@
-/* Random lists of calls. Each list is run on the library, on the reference implementation and on the plain book; and no record of a list is
- * sealed under a nonce that sealed another. */
+/* Random lists of calls. Each list is run on the library, on the reference implementation and on
+ * the plain book; and no record of a list is sealed under a nonce that sealed another. */
 #include "cases.h"
 
 #include "support/chance.h"
-#include "support/files.h"
-#include "support/expect.h"
 #include "support/draw_times.h"
+#include "support/expect.h"
+#include "support/files.h"
 #include "support/pool_calls.h"
 
 #include <string.h>
 
-enum { LONGEST = 40, LONGEST_CARD = 80, MOST_TOKENS = 6, MOST_LOADED = 40, MOST_NONCES = MOST_TOKENS * (1 + LONGEST) };
+enum {
+    LONGEST = 40,
+    LONGEST_CARD = 80,
+    MOST_TOKENS = 6,
+    MOST_LOADED = 40,
+    MOST_NONCES = MOST_TOKENS * (1 + LONGEST)
+};
 
 /* Where a token record has its counter and its token number. */
 enum { RECORD_COUNTER = 3, RECORD_TOKEN = 11 };
@@ -23,7 +29,8 @@ static const uint64_t block_bytes[] = {1, 26, 27, 28, 90, 91, 92, 4096};
 /* Another length for a buffer: one less, one more, none, or anything up to twice as long. */
 static void wrong_length(struct buffer *b)
 {
-    size_t other[] = {b->length ? b->length - 1 : 2, b->length + 1, 0, chance_below(2 * b->length + 2)};
+    size_t other[] = {b->length ? b->length - 1 : 2, b->length + 1, 0,
+                      chance_below(2 * b->length + 2)};
     buffer_resize(b, other[chance_below(COUNT(other))]);
 }
 
@@ -37,7 +44,8 @@ static void flip_any_bit(struct buffer *b)
 static uint64_t no_such_block(const struct file *file)
 {
     uint64_t n = file->book.numbers.n;
-    uint64_t numbers[] = {0, n + 1, n + (UINT64_C(1) << 32), UINT64_MAX, n + 1 + chance_below(1000)};
+    uint64_t numbers[] = {0, n + 1, n + (UINT64_C(1) << 32), UINT64_MAX,
+                          n + 1 + chance_below(1000)};
     return numbers[chance_below(COUNT(numbers))];
 }
 
@@ -47,24 +55,30 @@ static uint64_t no_mark(void)
     return LEGBARO_DELETED + 1 + chance_below(UINT8_MAX - LEGBARO_DELETED);
 }
 
-/* An item that no batch may have: of another kind, with a mark that is none, or with a block number that the file does not have or the item
- * before has. */
+/* An item that no batch may have: of another kind, with a mark that is none, or with a block number
+ * that the file does not have or the item before has. */
 static void disturb_item(const struct file *file, struct buffer *items)
 {
     size_t count = items->length / file_item_at(file, 1, 0), e = chance_below(count);
-    size_t kind = file_item_at(file, e, LEGBARO_ITEM_KIND), block = file_item_at(file, e, LEGBARO_ITEM_BLOCK);
-    uint64_t none[] = {0, file->book.numbers.n + 1, UINT32_MAX, file->book.numbers.n + 1 + chance_below(1000)};
+    size_t kind = file_item_at(file, e, LEGBARO_ITEM_KIND),
+           block = file_item_at(file, e, LEGBARO_ITEM_BLOCK);
+    uint64_t none[] = {0, file->book.numbers.n + 1, UINT32_MAX,
+                       file->book.numbers.n + 1 + chance_below(1000)};
     if (file->book.numbers.version != LEGBARO_WITHOUT_MARKS && chance_of(4))
-        buffer_put_number(items, file_item_at(file, e, LEGBARO_ITEM_MARK(file->book.numbers.B)), 1, no_mark());
+        buffer_put_number(items, file_item_at(file, e, LEGBARO_ITEM_MARK(file->book.numbers.B)), 1,
+                          no_mark());
     else if (chance_of(3))
-        buffer_put_number(items, kind, 1, LEGBARO_ITEM_DELETE + 1 + chance_below(254 - LEGBARO_ITEM_DELETE));
+        buffer_put_number(items, kind, 1,
+                          LEGBARO_ITEM_DELETE + 1 + chance_below(254 - LEGBARO_ITEM_DELETE));
     else if (e > 0 && chance_of(2))
-        buffer_put_number(items, block, 4, buffer_number(items, file_item_at(file, e - 1, LEGBARO_ITEM_BLOCK), 4));
+        buffer_put_number(items, block, 4,
+                          buffer_number(items, file_item_at(file, e - 1, LEGBARO_ITEM_BLOCK), 4));
     else
         buffer_put_number(items, block, 4, none[chance_below(COUNT(none))]);
 }
 
-/* Any schedule and any time: it may or may not allow it. At times there is no such date or minute, or no such minute in the schedule. */
+/* Any schedule and any time: it may or may not allow it. At times there is no such date or minute,
+ * or no such minute in the schedule. */
 static void disturb_hours(struct call *call)
 {
     struct when when = any_time();
@@ -72,20 +86,23 @@ static void disturb_hours(struct call *call)
     if (chance_of(3))
         *numbers[chance_below(COUNT(numbers))] = chance_of(2) ? 0 : 29 + chance_below(5000);
     if (chance_of(4))
-        schedule_window(&call->args[PLAN], (unsigned)chance_below(7), chance_below(1 << 16), chance_below(1 << 16));
+        schedule_window(&call->args[PLAN], (unsigned)chance_below(7), chance_below(1 << 16),
+                        chance_below(1 << 16));
     call_at(call, &when);
 }
 
 /* Any bytes after a length field that says how many: as many as a card has, or any number. */
 static struct buffer no_card(void)
 {
-    struct buffer b = buffer_blank(chance_of(2) ? reference_card_bytes(any_version()) : 2 + chance_below(LONGEST_CARD));
+    struct buffer b = buffer_blank(chance_of(2) ? reference_card_bytes(any_version())
+                                                : 2 + chance_below(LONGEST_CARD));
     chance_bytes(b.bytes, b.length);
     buffer_put_number(&b, 0, 2, b.length - 2);
     return b;
 }
 
-/* A card with some of these: another version, no token drawn, the file's own id, a bit flipped after the length field. */
+/* A card with some of these: another version, no token drawn, the file's own id, a bit flipped
+ * after the length field. */
 static struct buffer another_card(const struct file *file, const uint8_t *card)
 {
     struct card numbers = reference_read_card(card);
@@ -108,7 +125,8 @@ static void disturb_pool(const struct file *file, struct call *call)
     size_t offsets[POOL_ROOM], at = offsets[chance_below(pool_cut(&call->args[CARDS], offsets))];
     if (at == call->card_offset)
         return;
-    struct buffer other = chance_of(3) ? no_card() : another_card(file, call->args[CARDS].bytes + at);
+    struct buffer other =
+        chance_of(3) ? no_card() : another_card(file, call->args[CARDS].bytes + at);
     pool_put_card(call, at, &other);
     buffer_free(&other);
 }
@@ -116,14 +134,17 @@ static void disturb_pool(const struct file *file, struct call *call)
 /* Any role, with permission or without, or a number that is none. */
 static uint64_t any_role(void)
 {
-    static const uint64_t roles[] = {0, LEGBARO_SURVEYOR, LEGBARO_PLANNER, LEGBARO_MANAGER, LEGBARO_MANAGER + 1, UINT64_MAX};
+    static const uint64_t roles[] = {
+        0, LEGBARO_SURVEYOR, LEGBARO_PLANNER, LEGBARO_MANAGER, LEGBARO_MANAGER + 1, UINT64_MAX};
     return chance_of(8) ? chance() : roles[chance_below(COUNT(roles))];
 }
 
-/* Something wrong in what a list may hold: any buffer but card and table, the master's bytes and a block's present bytes and mark. */
+/* Something wrong in what a list may hold: any buffer but card and table, the master's bytes and a
+ * block's present bytes and mark. */
 static void disturb(const struct file *file, struct call *call)
 {
-    static const enum argument args[] = {MASTER, SECOND, OLD, MARKS, NEW, BLOCKS, ITEMS, MESSAGE, PLAN, REPLY, TOTALS};
+    static const enum argument args[] = {MASTER, SECOND,  OLD,  MARKS, NEW,   BLOCKS,
+                                         ITEMS,  MESSAGE, PLAN, REPLY, TOTALS};
     enum argument argument = args[chance_below(COUNT(args))];
     if (unasked(call->kind) == BATCH && chance_of(2))
         disturb_item(file, &call->args[ITEMS]);
@@ -141,8 +162,9 @@ static void disturb(const struct file *file, struct call *call)
         wrong_length(&call->args[argument]);
 }
 
-/* Which call comes next, of a change whether or not it is asked: a drawn token is mostly judged, at times in a pool, what is pending is mostly
- * committed or dropped, and drawing is rarer than changing. */
+/* Which call comes next, of a change whether or not it is asked: a drawn token is mostly judged, at
+ * times in a pool, what is pending is mostly committed or dropped, and drawing is rarer than
+ * changing. */
 static enum kind next_kind(const struct file *file)
 {
     static const enum kind changes[] = {UPDATE, DELETE, APPEND, LOAD, BATCH};
@@ -166,7 +188,8 @@ static struct call call_on(const struct file *file, enum kind kind)
     return kind == JUDGE_POOL ? pool_among_others(file) : file_call(file, kind);
 }
 
-/* A call of the list with nothing wrong in it. A load or a batch has a few blocks or, at times, many. An update may leave its block. */
+/* A call of the list with nothing wrong in it. A load or a batch has a few blocks or, at times,
+ * many. An update may leave its block. */
 static struct call next_in_one_step(const struct file *file)
 {
     enum kind kind = next_kind(file);
@@ -181,11 +204,13 @@ static struct call next_in_one_step(const struct file *file)
     return call;
 }
 
-/* Every second change of a file that takes changes in two steps is asked, and at times one of another file, which is refused. */
+/* Every second change of a file that takes changes in two steps is asked, and at times one of
+ * another file, which is refused. */
 static struct call next_call(const struct file *file)
 {
     struct call call = next_in_one_step(file);
-    if (!is_change(call.kind) || !chance_of(file->book.numbers.version == LEGBARO_TWO_STEPS ? 2 : 20))
+    if (!is_change(call.kind) ||
+        !chance_of(file->book.numbers.version == LEGBARO_TWO_STEPS ? 2 : 20))
         return call;
     struct call ask = call_asked(&call);
     call_free(&call);
@@ -211,9 +236,10 @@ static void seal_once(struct nonces *nonces, const struct buffer *table, const s
 {
     for (uint64_t i = numbers->next; i <= numbers->t; i++) {
         size_t record = (i - 1) * LEGBARO_RECORD_BYTES;
-        uint64_t counter = buffer_number(table, record + RECORD_COUNTER, 8), token = buffer_number(table, record + RECORD_TOKEN, 4);
-        expect(!has_sealed(nonces, counter, token), "counter %llu and token %llu to seal once", (unsigned long long)counter,
-               (unsigned long long)token);
+        uint64_t counter = buffer_number(table, record + RECORD_COUNTER, 8),
+                 token = buffer_number(table, record + RECORD_TOKEN, 4);
+        expect(!has_sealed(nonces, counter, token), "counter %llu and token %llu to seal once",
+               (unsigned long long)counter, (unsigned long long)token);
         nonces->counters[nonces->count] = counter;
         nonces->tokens[nonces->count++] = token;
     }
@@ -232,8 +258,8 @@ static void step(struct file *file, struct nonces *nonces)
         seal_once(nonces, is_ask(kind) ? &file->asked : &file->table, &file->book.numbers);
 }
 
-/* A call beside the list, on copies: any kind, with some bytes or lengths of any buffer altered, at times by any role. The book knows nothing
- * of it. */
+/* A call beside the list, on copies: any kind, with some bytes or lengths of any buffer altered, at
+ * times by any role. The book knows nothing of it. */
 static void aside(const struct file *file)
 {
     struct call call = call_on(file, (enum kind)(UPDATE + chance_below(PROVE + 1 - UPDATE)));
@@ -279,7 +305,8 @@ void test_lists(unsigned lists)
 {
     for (size_t i = 0; i < COUNT(rows); i++) {
         unsigned share = lists / COUNT(rows);
-        test_begin("%u random lists of up to %d calls with d = %llu, on all versions", share, LONGEST, (unsigned long long)rows[i]);
+        test_begin("%u random lists of up to %d calls with d = %llu, on all versions", share,
+                   LONGEST, (unsigned long long)rows[i]);
         for (unsigned j = 0; j < share; j++) {
             uint64_t round = j / COUNT(block_bytes), t = 1 + round % MOST_TOKENS;
             uint64_t version = FIRST_VERSION + (j + round + round / MOST_TOKENS) % LAST_VERSION;

@@ -2,8 +2,8 @@
 #include "cases.h"
 
 #include "support/chance.h"
-#include "support/files.h"
 #include "support/expect.h"
+#include "support/files.h"
 
 #include <string.h>
 
@@ -53,7 +53,8 @@ static void growing_loads(void)
     test_end();
 }
 
-/* A file that grows by loads of these sizes, one after the other, or of some of them, and an audit. */
+/* A file that grows by loads of these sizes, one after the other, or of some of them, and an
+ * audit. */
 static void grown_by(uint64_t B, uint64_t d, uint64_t r, const uint64_t *sizes, size_t count)
 {
     struct file file = file_set_up(any_version(), B, d, r, 2, 1 + chance_below(d));
@@ -64,10 +65,12 @@ static void grown_by(uint64_t B, uint64_t d, uint64_t r, const uint64_t *sizes, 
     file_end(&file);
 }
 
-/* Loads of up to some hundreds of blocks, below, at and above the size from which on a table of the round function pays, half of d / 2^h. */
+/* Loads of up to some hundreds of blocks, below, at and above the size from which on a table of the
+ * round function pays, half of d / 2^h. */
 static void hundreds(uint64_t B, uint64_t d, uint64_t r)
 {
-    static const uint64_t sizes[] = {19, 20, 21, 31, 32, 33, 97, 98, 99, 255, 256, 257, 511, 512, 513, 600, 1201};
+    static const uint64_t sizes[] = {19,  20,  21,  31,  32,  33,  97,  98,  99,
+                                     255, 256, 257, 511, 512, 513, 600, 1201};
     grown_by(B, d, r, sizes, COUNT(sizes));
 }
 
@@ -84,11 +87,13 @@ static void large_loads(void)
     test_end();
 }
 
-/* Loads below, at and above eight blocks for each position, from where on a load goes through the positions, and with their last walks alone,
- * two, three and four at once, within a run of 1,024 and after it. */
+/* Loads below, at and above eight blocks for each position, from where on a load goes through the
+ * positions, and with their last walks alone, two, three and four at once, within a run of 1,024
+ * and after it. */
 static void through_positions(uint64_t B, uint64_t d, uint64_t r)
 {
-    const uint64_t sizes[] = {8 * r - 1, 8 * r, 8 * r + 1, 8 * r + 2, 8 * r + 3, 1023, 1024, 1025, 1026, 1027, 2049};
+    const uint64_t sizes[] = {8 * r - 1, 8 * r, 8 * r + 1, 8 * r + 2, 8 * r + 3, 1023,
+                              1024,      1025,  1026,      1027,      2049};
     grown_by(B, d, r, sizes, COUNT(sizes));
 }
 
@@ -143,8 +148,9 @@ static struct buffer drawn_reply(struct file *file)
     return reply;
 }
 
-/* One set-up made twice; the blocks come as one load there and one by one here, with the same turns and hashes. Both are audited alike: the
- * record's counter apart, which stands after the digest with the sealed token, the replies are the same. */
+/* One set-up made twice; the blocks come as one load there and one by one here, with the same turns
+ * and hashes. Both are audited alike: the record's counter apart, which stands after the digest
+ * with the sealed token, the replies are the same. */
 static void load_and_appends(uint64_t B, uint64_t d, uint64_t r, uint64_t n, uint64_t blocks)
 {
     enum { BEFORE_RECORD = LEGBARO_REPLY_BYTES - LEGBARO_RECORD_BYTES };
@@ -153,7 +159,8 @@ static void load_and_appends(uint64_t B, uint64_t d, uint64_t r, uint64_t n, uin
     struct call load = file_load_call(&loading, blocks);
     append_singly(&appending, &load.args[BLOCKS]);
     expect(file_run(&loading, &load) == LEGBARO_OK, "accepted");
-    expect(loading.book.numbers.ctr == 1 && appending.book.numbers.ctr == blocks, "one step of the counter");
+    expect(loading.book.numbers.ctr == 1 && appending.book.numbers.ctr == blocks,
+           "one step of the counter");
     expect(totals_same(loading.totals, appending.totals), "the totals of all appends");
     struct buffer one = drawn_reply(&loading), other = drawn_reply(&appending);
     expect(buffer_same(&loading.message, &appending.message), "the same message");
@@ -185,7 +192,10 @@ static void load_lengths(void)
     for (size_t length = 0; length <= 3 * B; length++) {
         struct call call = file_load_call(&file, 3);
         buffer_resize(&call.args[BLOCKS], length);
-        call_finish(&call, length == B || length == 2 * B || length == 3 * B ? LEGBARO_OK : LEGBARO_NOT_WHOLE_BLOCKS, "a load's length");
+        call_finish(&call,
+                    length == B || length == 2 * B || length == 3 * B ? LEGBARO_OK
+                                                                      : LEGBARO_NOT_WHOLE_BLOCKS,
+                    "a load's length");
     }
     file_end(&file);
     test_end();

@@ -1,17 +1,18 @@
 /*
- * Compares the library with the reference implementation and with the plain book. The last line is 'N passed, M failed'.
+ * Compares the library with the reference implementation and with the plain book. The last line is
+ * 'N passed, M failed'.
  *
  *   --seed N    another seed than the fixed one
  *   --lists N   how many random lists
- *   --exact     for a run under a memory checker: buffers without guard bytes, a part of the cases where there are many, no large files,
- *               no look at a stack
+ *   --exact     for a run under a memory checker: buffers without guard bytes, a part of the cases
+ *               where there are many, no large files, no look at a stack
  */
 #include "cases.h"
 
+#include "reference/reference.h"
 #include "support/buffers.h"
 #include "support/chance.h"
 #include "support/expect.h"
-#include "reference/reference.h"
 
 #include <stdio.h>
 #include <stdlib.h>

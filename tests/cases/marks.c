@@ -1,9 +1,10 @@
-/* Marks: their lengths and values, blocks of zeros beside deleted blocks, and versions with marks beside version 1. */
+/* Marks: their lengths and values, blocks of zeros beside deleted blocks, and versions with marks
+ * beside version 1. */
 #include "cases.h"
 
 #include "support/chance.h"
-#include "support/files.h"
 #include "support/expect.h"
+#include "support/files.h"
 
 #include <string.h>
 
@@ -24,7 +25,8 @@ static void with_length(const struct file *file, enum kind kind, size_t length, 
 /* One mark for a change and n for a proof, none in version 1. */
 static void lengths(uint64_t version)
 {
-    struct file changing = file_set_up(version, B, D, D, T, N), proving = file_set_up(version, B, D, D, T, N);
+    struct file changing = file_set_up(version, B, D, D, T, N),
+                proving = file_set_up(version, B, D, D, T, N);
     size_t one = version == LEGBARO_WITHOUT_MARKS ? 0 : 1, all = one * N;
     file_do(&proving, DRAW);
     for (size_t length = 0; length <= 2 * N; length++) {
@@ -42,16 +44,19 @@ static void with_mark(struct call call, enum argument argument, size_t at, uint6
     call_finish(&call, mark <= LEGBARO_DELETED ? LEGBARO_OK : LEGBARO_BAD_MARK, "any mark");
 }
 
-/* Every byte as the mark of a change, of an item first, in the middle and last, and of each block in a proof, drawn or not. */
+/* Every byte as the mark of a change, of an item first, in the middle and last, and of each block
+ * in a proof, drawn or not. */
 static void values(uint64_t version)
 {
-    struct file changing = file_set_up(version, B, D, D, T, N), proving = file_set_up(version, B, D, 1, T, N);
+    struct file changing = file_set_up(version, B, D, D, T, N),
+                proving = file_set_up(version, B, D, 1, T, N);
     file_do(&proving, DRAW);
     for (uint64_t mark = 0; mark <= UINT8_MAX; mark++) {
         for (size_t k = 0; k < sizeof singles / sizeof *singles; k++)
             with_mark(file_call(&changing, singles[k]), MARKS, 0, mark);
         for (size_t e = 0; e < 9; e += 4)
-            with_mark(file_batch_call(&changing, 9), ITEMS, file_item_at(&changing, e, LEGBARO_ITEM_MARK(B)), mark);
+            with_mark(file_batch_call(&changing, 9), ITEMS,
+                      file_item_at(&changing, e, LEGBARO_ITEM_MARK(B)), mark);
         for (uint64_t m = 1; m <= N; m++)
             with_mark(file_call(&proving, PROVE), MARKS, m - 1, mark);
     }
@@ -82,7 +87,8 @@ static void make_zeros(struct file *file, enum kind kind, uint64_t m)
     expect(file_run(file, &call) == LEGBARO_OK, "accepted");
 }
 
-/* A file in which one block is a live one of zeros and another is deleted. An audit looks at every block. */
+/* A file in which one block is a live one of zeros and another is deleted. An audit looks at every
+ * block. */
 static struct file with_closed_day(uint64_t version)
 {
     struct file file = file_set_up(version, B, D, D, T, N);
@@ -91,7 +97,8 @@ static struct file with_closed_day(uint64_t version)
     return file;
 }
 
-/* The host keeps nothing of block m and proves from zero bytes, with the mark that is given where the version has marks. */
+/* The host keeps nothing of block m and proves from zero bytes, with the mark that is given where
+ * the version has marks. */
 static void dropped(uint64_t version, uint64_t m, uint8_t mark, uint64_t verdict)
 {
     struct file file = with_closed_day(version);
@@ -103,16 +110,19 @@ static void dropped(uint64_t version, uint64_t m, uint8_t mark, uint64_t verdict
     call_expect(&proof, LEGBARO_OK, "accepted");
     memcpy(judge.args[REPLY].bytes, proof.args[REPLY].bytes, LEGBARO_REPLY_BYTES);
     uint64_t number = file_run(&file, &judge);
-    expect(number == verdict, "block %llu dropped, with mark %u, in version %llu: %llu, not %llu", (unsigned long long)m, mark,
-           (unsigned long long)version, (unsigned long long)verdict, (unsigned long long)number);
+    expect(number == verdict, "block %llu dropped, with mark %u, in version %llu: %llu, not %llu",
+           (unsigned long long)m, mark, (unsigned long long)version, (unsigned long long)verdict,
+           (unsigned long long)number);
     call_free(&proof);
     file_end(&file);
 }
 
-/* Version 1 can't tell a closed day from a deleted block; versions 2 and 3 can, both ways. Other blocks are missed in each. */
+/* Version 1 can't tell a closed day from a deleted block; versions 2 and 3 can, both ways. Other
+ * blocks are missed in each. */
 static void closed_days(void)
 {
-    test_begin("a host that drops a live block of zeros is caught in versions 2 and 3 and not in version 1");
+    test_begin("a host that drops a live block of zeros is caught in versions 2 and 3 and not in "
+               "version 1");
     dropped(LEGBARO_WITHOUT_MARKS, CLOSED_DAY, LEGBARO_DELETED, LEGBARO_OK);
     dropped(LEGBARO_WITHOUT_MARKS, DELETED_BLOCK, LEGBARO_LIVE, LEGBARO_OK);
     for (uint64_t version = LEGBARO_WITH_MARKS; version <= LAST_VERSION; version++) {
@@ -133,7 +143,8 @@ static void wrong_old_mark(uint64_t version, enum kind kind, uint64_t m)
 {
     struct file file = with_closed_day(version);
     struct call call = file_block_call(&file, kind, m);
-    call.args[MARKS].bytes[0] = (uint8_t)(LEGBARO_LIVE + LEGBARO_DELETED - *book_mark(&file.book, m));
+    call.args[MARKS].bytes[0] =
+        (uint8_t)(LEGBARO_LIVE + LEGBARO_DELETED - *book_mark(&file.book, m));
     expect(file_run(&file, &call) == LEGBARO_OK, "accepted");
     file_do(&file, DRAW);
     call = file_call(&file, JUDGE);
@@ -168,12 +179,14 @@ static struct buffer marked_blocks(const struct file *file)
     return blocks;
 }
 
-/* Expects the tokens of a file that has marks in a set-up of version 1, of the same master and id, over its blocks after their marks. */
+/* Expects the tokens of a file that has marks in a set-up of version 1, of the same master and id,
+ * over its blocks after their marks. */
 static void expect_twin(const struct file *file)
 {
     const struct card *numbers = &file->book.numbers;
     uint8_t token[TOKEN_BYTES], twin_token[TOKEN_BYTES];
-    struct call set_up = file_set_up_call(LEGBARO_WITHOUT_MARKS, numbers->B + 1, numbers->d, numbers->r, numbers->t, numbers->n);
+    struct call set_up = file_set_up_call(LEGBARO_WITHOUT_MARKS, numbers->B + 1, numbers->d,
+                                          numbers->r, numbers->t, numbers->n);
     memcpy(set_up.args[MASTER].bytes, file->master.bytes, LEGBARO_MASTER_BYTES);
     memcpy(set_up.args[ID].bytes, numbers->id, LEGBARO_ID_BYTES);
     buffer_free(&set_up.args[BLOCKS]);
@@ -181,15 +194,16 @@ static void expect_twin(const struct file *file)
     struct file twin = file_of(&set_up);
     for (uint64_t i = numbers->next; i <= numbers->t; i++)
         expect(reference_token(file->master.bytes, numbers, file->table.bytes, i, token) &&
-                   reference_token(file->master.bytes, &twin.book.numbers, twin.table.bytes, i, twin_token) &&
+                   reference_token(file->master.bytes, &twin.book.numbers, twin.table.bytes, i,
+                                   twin_token) &&
                    memcmp(token, twin_token, sizeof token) == 0,
                "the token of version 1 over marks and blocks");
     file_end(&twin);
     call_free(&set_up);
 }
 
-/* "one mark byte stands between index and block in the hash": a token of version 2 or 3 is one of version 1 over blocks that begin with
- * it. */
+/* "one mark byte stands between index and block in the hash": a token of version 2 or 3 is one of
+ * version 1 over blocks that begin with it. */
 static void twins(void)
 {
     static const enum kind changes[] = {UPDATE, DELETE, DELETE, APPEND, LOAD, BATCH};
@@ -197,7 +211,8 @@ static void twins(void)
     for (uint64_t i = 0; i < TWINS; i = tried_after(i, 5)) {
         uint64_t d = 1 + chance_below(20);
         uint64_t version = LEGBARO_WITH_MARKS + chance_below(LAST_VERSION + 1 - LEGBARO_WITH_MARKS);
-        struct file file = file_set_up(version, 1 + chance_below(MOST_B), d, 1 + chance_below(d), T, 1 + chance_below(2 * d));
+        struct file file = file_set_up(version, 1 + chance_below(MOST_B), d, 1 + chance_below(d), T,
+                                       1 + chance_below(2 * d));
         for (uint64_t steps = chance_below(8); steps; steps--)
             file_do(&file, changes[chance_below(sizeof changes / sizeof *changes)]);
         expect_twin(&file);

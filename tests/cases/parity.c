@@ -1,4 +1,5 @@
-/* Parity: groups beside ISA-L, whose Cauchy matrix has these weights, every set of losses of small groups, random groups of every size. */
+/* Parity: groups beside ISA-L, whose Cauchy matrix has these weights, every set of losses of small
+ * groups, random groups of every size. */
 #include "cases.h"
 
 #include "support/chance.h"
@@ -9,19 +10,29 @@
 #include <stdlib.h>
 #include <string.h>
 
-enum { K = LEGBARO_MOST_DATA_BLOCKS, P = LEGBARO_MOST_PARITY_BLOCKS, SMALL_K = 5, SMALL_P = 3, TRIED = 4000, EXACTLY_TRIED = 20, SIZE_TRIED = 28 };
+enum {
+    K = LEGBARO_MOST_DATA_BLOCKS,
+    P = LEGBARO_MOST_PARITY_BLOCKS,
+    SMALL_K = 5,
+    SMALL_P = 3,
+    TRIED = 4000,
+    EXACTLY_TRIED = 20,
+    SIZE_TRIED = 28
+};
 
 /* ---- ISA-L ---- */
 
-/* The matrix of a group: a row of k weights for each block, of which the first k are the unit matrix. */
+/* The matrix of a group: a row of k weights for each block, of which the first k are the unit
+ * matrix. */
 static void matrix_of(uint64_t k, uint64_t p, uint8_t *matrix)
 {
     gf_gen_cauchy1_matrix(matrix, (int)(k + p), (int)k);
 }
 
-/* Expects the blocks that rows of k weights make of k blocks, by the code that ISA-L chooses and by its portable code. */
-static void expect_products(uint64_t B, uint64_t k, uint64_t rows, uint8_t *weights, uint8_t **from, uint8_t *const *expected,
-                            const char *what)
+/* Expects the blocks that rows of k weights make of k blocks, by the code that ISA-L chooses and by
+ * its portable code. */
+static void expect_products(uint64_t B, uint64_t k, uint64_t rows, uint8_t *weights, uint8_t **from,
+                            uint8_t *const *expected, const char *what)
 {
     static uint8_t tables[32 * K * K];
     uint8_t *out = malloc(rows * B), *to[K];
@@ -35,7 +46,8 @@ static void expect_products(uint64_t B, uint64_t k, uint64_t rows, uint8_t *weig
         else
             ec_encode_data((int)B, (int)k, (int)rows, tables, from, to);
         for (uint64_t i = 0; i < rows; i++)
-            expect(!memcmp(to[i], expected[i], B), "%s %llu as ISA-L%s has it", what, (unsigned long long)i, portable ? "'s portable code" : "");
+            expect(!memcmp(to[i], expected[i], B), "%s %llu as ISA-L%s has it", what,
+                   (unsigned long long)i, portable ? "'s portable code" : "");
     }
     free(out);
 }
@@ -53,7 +65,8 @@ static void expect_encoded(const struct call *call)
     expect_products(call->B, call->n, call->r, matrix + call->n * call->n, from, parity, "parity");
 }
 
-/* Expects the lost data that an accepted rebuilding left: ISA-L inverts the matrix of the kept data and of the lowest parity blocks left. */
+/* Expects the lost data that an accepted rebuilding left: ISA-L inverts the matrix of the kept data
+ * and of the lowest parity blocks left. */
 static void expect_rebuilt(const struct call *call)
 {
     static uint8_t matrix[(K + P) * K], left[K * K], inverted[K * K], weights[K * K];
@@ -66,7 +79,8 @@ static void expect_rebuilt(const struct call *call)
             memcpy(left + found * k, matrix + number * k, k);
             from[found++] = call->args[BLOCKS].bytes + number * B;
         }
-    expect(found == k && gf_invert_matrix(left, inverted, (int)k) == 0, "the matrix of the blocks left can be inverted");
+    expect(found == k && gf_invert_matrix(left, inverted, (int)k) == 0,
+           "the matrix of the blocks left can be inverted");
     for (uint64_t q = 0; q < k; q++)
         if (memchr(lost->bytes, (int)q, lost->length)) {
             memcpy(weights + count * k, inverted + q * k, k);
@@ -78,8 +92,8 @@ static void expect_rebuilt(const struct call *call)
 
 /* ---- Groups ---- */
 
-/* Runs an encoding, and a rebuilding after the losses, beside the reference implementation and ISA-L. All data come back, unless a survivor is
- * damaged. */
+/* Runs an encoding, and a rebuilding after the losses, beside the reference implementation and
+ * ISA-L. All data come back, unless a survivor is damaged. */
 static void expect_group(struct call *encoding, const uint8_t *lost, size_t count, int damaged)
 {
     struct call rebuilding = parity_rebuilding(encoding, lost, count);
@@ -90,11 +104,13 @@ static void expect_group(struct call *encoding, const uint8_t *lost, size_t coun
         buffer_flip(blocks, chance_below(8 * blocks->length));
     call_expect(&rebuilding, LEGBARO_OK, "a group");
     expect_rebuilt(&rebuilding);
-    expect(damaged || buffer_same(&rebuilding.args[OUT], &encoding->args[BLOCKS]), "all data come back");
+    expect(damaged || buffer_same(&rebuilding.args[OUT], &encoding->args[BLOCKS]),
+           "all data come back");
     call_free(&rebuilding);
 }
 
-/* The numbers of a set of blocks, a bit for each, from the highest where they go down; answers how many. */
+/* The numbers of a set of blocks, a bit for each, from the highest where they go down; answers how
+ * many. */
 static size_t numbers_of(unsigned set, int down, uint8_t *numbers)
 {
     size_t count = 0;
@@ -106,7 +122,8 @@ static size_t numbers_of(unsigned set, int down, uint8_t *numbers)
     return count;
 }
 
-/* Every set of losses of one size of group, in a group of its own each: as many as parity blocks and fewer come back, more are refused. */
+/* Every set of losses of one size of group, in a group of its own each: as many as parity blocks
+ * and fewer come back, more are refused. */
 static void every_loss(uint64_t k, uint64_t p)
 {
     uint8_t lost[SMALL_K + SMALL_P];
@@ -153,7 +170,8 @@ static void random_groups(void)
     uint8_t lost[P];
     test_begin("random groups, with sound survivors and with damaged ones");
     for (uint64_t i = 0; i < TRIED; i = tried_after(i, EXACTLY_TRIED)) {
-        uint64_t B = chance_of(50) ? any_to(LEGBARO_MOST_BLOCK_BYTES) : 1 + chance_below(150), k = any_to(K), p = any_to(P);
+        uint64_t B = chance_of(50) ? any_to(LEGBARO_MOST_BLOCK_BYTES) : 1 + chance_below(150),
+                 k = any_to(K), p = any_to(P);
         struct call encoding = parity_encoding(B, k, p);
         size_t count = chance_of(2) ? p : chance_below(p + 1);
         any_losses(k + p, count, lost);
@@ -200,7 +218,8 @@ static void unread(void)
     test_end();
 }
 
-/* Any numbers, lengths and lists of the lost, inside the limits and outside: a refusal leaves the buffers. */
+/* Any numbers, lengths and lists of the lost, inside the limits and outside: a refusal leaves the
+ * buffers. */
 static void any_calls(void)
 {
     test_begin("parity of any numbers");
@@ -211,7 +230,8 @@ static void any_calls(void)
         size_t count = chance_below(chance_of(2) ? 3 : sizeof lost);
         for (size_t j = 0; j < count; j++)
             lost[j] = (uint8_t)chance_below(k + p);
-        struct call call = chance_of(3) ? call_copy(&encoding) : parity_rebuilding(&encoding, lost, count);
+        struct call call =
+            chance_of(3) ? call_copy(&encoding) : parity_rebuilding(&encoding, lost, count);
         uint64_t *const numbers[] = {&call.B, &call.n, &call.r};
         if (chance_of(3))
             *numbers[chance_below(3)] = chance_of(2) ? chance_below(60) : chance();
@@ -231,14 +251,16 @@ static void any_calls(void)
 /* A rebuilding of a group of three data blocks and two parity blocks, of which so many are lost. */
 static void lost_blocks(const uint8_t *lost, size_t count, uint64_t code, const char *what)
 {
-    struct call encoding = parity_encoding(SIZE_TRIED, 3, 2), call = parity_rebuilding(&encoding, (const uint8_t *)"", 0);
+    struct call encoding = parity_encoding(SIZE_TRIED, 3, 2),
+                call = parity_rebuilding(&encoding, (const uint8_t *)"", 0);
     buffer_free(&call.args[LOST]);
     call.args[LOST] = buffer_of(lost, count);
     call_finish(&call, code, what);
     call_free(&encoding);
 }
 
-/* Code 24's small inputs: no data block, 17 parity blocks, a lost block named twice, one not in the group. Code 25's: three lost, p 2. */
+/* Code 24's small inputs: no data block, 17 parity blocks, a lost block named twice, one not in the
+ * group. Code 25's: three lost, p 2. */
 static void broken_groups(void)
 {
     test_begin("the small inputs of codes 24 and 25");
@@ -250,7 +272,8 @@ static void broken_groups(void)
 
     lost_blocks((const uint8_t[]){1, 1}, 2, LEGBARO_BAD_GROUP, "a lost block named twice");
     lost_blocks((const uint8_t[]){5}, 1, LEGBARO_BAD_GROUP, "a lost block not in the group");
-    lost_blocks((const uint8_t[]){0, 1, 2, 1}, 4, LEGBARO_BAD_GROUP, "too many lost, one of them named twice");
+    lost_blocks((const uint8_t[]){0, 1, 2, 1}, 4, LEGBARO_BAD_GROUP,
+                "too many lost, one of them named twice");
     lost_blocks((const uint8_t[]){0, 1, 2}, 3, LEGBARO_TOO_MANY_LOST, "three lost, p 2");
     lost_blocks((const uint8_t[]){4, 0}, 2, LEGBARO_OK, "two lost, p 2");
     lost_blocks((const uint8_t *)"", 0, LEGBARO_OK, "none lost");

@@ -1,9 +1,10 @@
-/* Cards of version 3: their sizes, and the limits of what is pending, at, below and above their ends. */
+/* Cards of version 3: their sizes, and the limits of what is pending, at, below and above their
+ * ends. */
 #include "cases.h"
 
 #include "support/chance.h"
-#include "support/files.h"
 #include "support/expect.h"
+#include "support/files.h"
 
 #define COUNT(array) (sizeof(array) / sizeof *(array))
 
@@ -16,8 +17,8 @@ static int is_size(size_t length)
     return length == LEGBARO_CARD_BYTES || length == LEGBARO_TWO_STEP_CARD_BYTES;
 }
 
-/* Calls of a kind with a card of every length, with the length field as it is or as the length would have it: 1 for lengths that no card
- * has, 2 for the other version's. */
+/* Calls of a kind with a card of every length, with the length field as it is or as the length
+ * would have it: 1 for lengths that no card has, 2 for the other version's. */
 static void every_size(const struct file *file, enum kind kind)
 {
     struct call own = file_call(file, kind), again = call_copy(&own);
@@ -29,7 +30,11 @@ static void every_size(const struct file *file, enum kind kind)
             buffer_resize(&call.args[CARD], length);
             if (field)
                 buffer_put_number(&call.args[CARD], 0, 2, length - 2);
-            call_finish(&call, length == size ? number : is_size(length) ? LEGBARO_WRONG_HEADER : LEGBARO_WRONG_LENGTH, "a card's size");
+            call_finish(&call,
+                        length == size    ? number
+                        : is_size(length) ? LEGBARO_WRONG_HEADER
+                                          : LEGBARO_WRONG_LENGTH,
+                        "a card's size");
         }
     call_free(&own);
     call_free(&again);
@@ -43,27 +48,34 @@ static void size_at_set_up(uint64_t version, uint64_t r, size_t length, uint64_t
     call_finish(&call, code, "a card's size at set-up");
 }
 
-/* At set-up the other version's size is the later 1: a number outside its limits, r above d, comes before. */
+/* At set-up the other version's size is the later 1: a number outside its limits, r above d, comes
+ * before. */
 static void sizes_at_set_up(uint64_t version)
 {
     size_t own = version == LEGBARO_TWO_STEPS ? LEGBARO_TWO_STEP_CARD_BYTES : LEGBARO_CARD_BYTES;
     for (size_t length = 0; length <= LONGEST_CARD; length++) {
         size_at_set_up(version, R, length, length == own ? LEGBARO_OK : LEGBARO_WRONG_LENGTH);
-        size_at_set_up(version, D + 1, length, is_size(length) ? LEGBARO_OUT_OF_LIMITS : LEGBARO_WRONG_LENGTH);
+        size_at_set_up(version, D + 1, length,
+                       is_size(length) ? LEGBARO_OUT_OF_LIMITS : LEGBARO_WRONG_LENGTH);
     }
 }
 
 static void sizes(uint64_t version)
 {
-    test_begin("every size of a card up to %d bytes, version %llu", LONGEST_CARD, (unsigned long long)version);
-    struct file changing = file_set_up(version, B, D, R, T, N), judging = file_set_up(version, B, D, R, T, N);
+    test_begin("every size of a card up to %d bytes, version %llu", LONGEST_CARD,
+               (unsigned long long)version);
+    struct file changing = file_set_up(version, B, D, R, T, N),
+                judging = file_set_up(version, B, D, R, T, N);
     struct file settling = file_set_up(version, B, D, R, T, N);
     file_do(&judging, DRAW);
     if (version == LEGBARO_TWO_STEPS)
         file_do(&settling, ASK_LOAD);
     sizes_at_set_up(version);
     for (enum kind kind = UPDATE; kind <= CAUSE; kind++)
-        every_size(kind == JUDGE || kind == CAUSE ? &judging : kind == COMMIT || kind == DROP ? &settling : &changing, kind);
+        every_size(kind == JUDGE || kind == CAUSE   ? &judging
+                   : kind == COMMIT || kind == DROP ? &settling
+                                                    : &changing,
+                   kind);
     file_end(&changing);
     file_end(&judging);
     file_end(&settling);
@@ -72,37 +84,52 @@ static void sizes(uint64_t version)
 
 /* ---- Limits ---- */
 
-/* Values of the fields at, below and above their ends, and the numbers beside them that they are measured by. */
+/* Values of the fields at, below and above their ends, and the numbers beside them that they are
+ * measured by. */
 struct fields {
     uint64_t ctr, n, open, last_issued, pending, pending_n;
 };
 
-enum { CTRS = 4, NS = 2, OPENS = 2, LASTS = 9, PENDINGS = 10, COUNTS = 9, CASES = CTRS * NS * OPENS * LASTS * PENDINGS * COUNTS };
+enum {
+    CTRS = 4,
+    NS = 2,
+    OPENS = 2,
+    LASTS = 9,
+    PENDINGS = 10,
+    COUNTS = 9,
+    CASES = CTRS * NS * OPENS * LASTS * PENDINGS * COUNTS
+};
 
 static struct fields fields_of(uint64_t number)
 {
     const uint64_t most = LEGBARO_MOST_COUNTER, most_n = LEGBARO_MOST_BLOCKS;
-    const uint64_t ctrs[CTRS] = {0, CTR, most - 1, most}, ns[NS] = {N, most_n}, opens[OPENS] = {0, NEXT - 1};
-    struct fields f = {.ctr = ctrs[number % CTRS], .n = ns[number / CTRS % NS], .open = opens[number / CTRS / NS % OPENS]};
+    const uint64_t ctrs[CTRS] = {0, CTR, most - 1, most}, ns[NS] = {N, most_n},
+                   opens[OPENS] = {0, NEXT - 1};
+    struct fields f = {.ctr = ctrs[number % CTRS],
+                       .n = ns[number / CTRS % NS],
+                       .open = opens[number / CTRS / NS % OPENS]};
     number /= CTRS * NS * OPENS;
-    const uint64_t lasts[LASTS] = {0, f.ctr - 1, f.ctr, f.ctr + 1, f.ctr + 2, most - 1, most, most + 1, UINT64_MAX};
+    const uint64_t lasts[LASTS] = {0,        f.ctr - 1, f.ctr,    f.ctr + 1, f.ctr + 2,
+                                   most - 1, most,      most + 1, UINT64_MAX};
     f.last_issued = lasts[number % LASTS];
     number /= LASTS;
-    const uint64_t pendings[PENDINGS] = {0,    1,        f.ctr,     f.ctr + 1, f.last_issued - 1, f.last_issued, f.last_issued + 1,
-                                         most, most + 1, UINT64_MAX};
+    const uint64_t pendings[PENDINGS] = {
+        0,    1,        f.ctr,     f.ctr + 1, f.last_issued - 1, f.last_issued, f.last_issued + 1,
+        most, most + 1, UINT64_MAX};
     f.pending = pendings[number % PENDINGS];
-    const uint64_t counts[COUNTS] = {0, 1, f.n - 1, f.n, f.n + 1, most_n - 1, most_n, most_n + 1, UINT32_MAX};
+    const uint64_t counts[COUNTS] = {0,          1,      f.n - 1,    f.n,       f.n + 1,
+                                     most_n - 1, most_n, most_n + 1, UINT32_MAX};
     f.pending_n = counts[number / PENDINGS];
     return f;
 }
 
-/* "Last issued is from ctr to ctr's most; a pending counter equals it and exceeds ctr, with a count from n to n's most and open 0"; "both 0
- * for none" */
+/* "Last issued is from ctr to ctr's most; a pending counter equals it and exceeds ctr, with a count
+ * from n to n's most and open 0"; "both 0 for none" */
 static int fit(const struct fields *f)
 {
     int none = f->pending == 0 && f->pending_n == 0;
-    int sound = f->pending == f->last_issued && f->pending > f->ctr && f->pending_n >= f->n && f->pending_n <= LEGBARO_MOST_BLOCKS &&
-                f->open == 0;
+    int sound = f->pending == f->last_issued && f->pending > f->ctr && f->pending_n >= f->n &&
+                f->pending_n <= LEGBARO_MOST_BLOCKS && f->open == 0;
     return f->ctr <= f->last_issued && f->last_issued <= LEGBARO_MOST_COUNTER && (none || sound);
 }
 
@@ -143,7 +170,8 @@ static void with_fields(const struct file *file, enum kind kind, const struct fi
 static void limits(void)
 {
     static const enum kind kinds[] = {COMMIT, DROP, DRAW, JUDGE, UPDATE, ASK_UPDATE};
-    test_begin("last counter issued, pending counter and pending blocks at, below and above their ends");
+    test_begin(
+        "last counter issued, pending counter and pending blocks at, below and above their ends");
     struct file file = file_set_up(LEGBARO_TWO_STEPS, B, D, R, T, N);
     file_audit(&file);
     for (int changes = 0; changes < CTR; changes++)

@@ -1,4 +1,5 @@
-/* Pooled replies: of every number of files, cut and broken in every way, what the xor shows and what not, and lists on several files. */
+/* Pooled replies: of every number of files, cut and broken in every way, what the xor shows and
+ * what not, and lists on several files. */
 #include "cases.h"
 
 #include "support/chance.h"
@@ -9,13 +10,23 @@
 
 #define COUNT(array) (sizeof(array) / sizeof *(array))
 
-/* Where a pooled reply has the xor, and its entries; an entry its record; and a single reply its digest. */
-enum { POOLED_XOR = 5, ENTRIES = 37, ENTRY = 75, ENTRY_RECORD = 12, REPLY_ID = 3, REPLY_DIGEST = 15 };
+/* Where a pooled reply has the xor, and its entries; an entry its record; and a single reply its
+ * digest. */
+enum {
+    POOLED_XOR = 5,
+    ENTRIES = 37,
+    ENTRY = 75,
+    ENTRY_RECORD = 12,
+    REPLY_ID = 3,
+    REPLY_DIGEST = 15
+};
 
-/* A pool of THREE has a card of each version. Under a memory checker one length in so many is tried. */
+/* A pool of THREE has a card of each version. Under a memory checker one length in so many is
+ * tried. */
 enum { THREE = 3, LENGTHS = 7, LISTS = 200, LONGEST = 20 };
 
-/* Files of one master, each with a token drawn, the versions in turn; and of the first so many of them the pooled judging and the pooling. */
+/* Files of one master, each with a token drawn, the versions in turn; and of the first so many of
+ * them the pooled judging and the pooling. */
 static struct file files[POOL_ROOM];
 static struct call judgings[POOL_ROOM + 1], poolings[POOL_ROOM + 1];
 
@@ -66,7 +77,8 @@ static size_t card_at(size_t e)
     return at;
 }
 
-/* Expects cards to be as before but for the open tokens, which are 0: "Every verdict closes all draws." */
+/* Expects cards to be as before but for the open tokens, which are 0: "Every verdict closes all
+ * draws." */
 static void expect_closed(const struct buffer *before, const struct buffer *after)
 {
     struct buffer closed = buffer_copy(before);
@@ -77,7 +89,8 @@ static void expect_closed(const struct buffer *before, const struct buffer *afte
     buffer_free(&closed);
 }
 
-/* Runs a pooled judging, and expects this number, and what it leaves of the cards. Frees the call. */
+/* Runs a pooled judging, and expects this number, and what it leaves of the cards. Frees the
+ * call. */
 static void judged(struct call *call, uint64_t number, const char *what)
 {
     struct buffer before = buffer_copy(&call->args[CARDS]);
@@ -90,7 +103,8 @@ static void judged(struct call *call, uint64_t number, const char *what)
     call_free(call);
 }
 
-/* The judging of the first so many files with the reply that a pooling makes, which is expected to be accepted. Frees the pooling. */
+/* The judging of the first so many files with the reply that a pooling makes, which is expected to
+ * be accepted. Frees the pooling. */
 static struct call judging_with(struct call *pooling, size_t count)
 {
     struct call call = judging(count);
@@ -116,8 +130,9 @@ static void every_number(void)
     test_end();
 }
 
-/* A length field that is no card's, in any card: 2. In the last one a card's other length: 1 where it is longer; where it is shorter what is
- * left has a length field of 0, the high bytes of the last counter issued: 2. */
+/* A length field that is no card's, in any card: 2. In the last one a card's other length: 1 where
+ * it is longer; where it is shorter what is left has a length field of 0, the high bytes of the
+ * last counter issued: 2. */
 static void length_fields(void)
 {
     static const uint64_t none[] = {0, 1, 40, 42, 43, 60, 62, 63, 256 + 41, 256 + 61, UINT16_MAX};
@@ -132,15 +147,18 @@ static void length_fields(void)
         int longer = files[count - 1].card.length == LEGBARO_CARD_BYTES;
         struct call call = judging(count);
         buffer_put_number(&call.args[CARDS], card_at(count - 1), 2, longer ? 61 : 41);
-        judged(&call, longer ? LEGBARO_WRONG_LENGTH : LEGBARO_WRONG_HEADER, "the other length in the last card");
+        judged(&call, longer ? LEGBARO_WRONG_LENGTH : LEGBARO_WRONG_HEADER,
+               "the other length in the last card");
     }
     test_end();
 }
 
-/* What the first so many bytes of three cards come to: whole cards, a rest of them, or what is no card after them. */
+/* What the first so many bytes of three cards come to: whole cards, a rest of them, or what is no
+ * card after them. */
 static uint64_t cut_number(size_t length)
 {
-    static const uint64_t whole[] = {LEGBARO_BAD_POOL, LEGBARO_BAD_POOL, LEGBARO_REJECTED, LEGBARO_OK};
+    static const uint64_t whole[] = {LEGBARO_BAD_POOL, LEGBARO_BAD_POOL, LEGBARO_REJECTED,
+                                     LEGBARO_OK};
     for (size_t e = 0; e <= THREE; e++)
         if (length == card_at(e))
             return whole[e];
@@ -150,18 +168,21 @@ static uint64_t cut_number(size_t length)
 static void every_length(void)
 {
     test_begin("cards and pooled replies of every length");
-    for (size_t length = 0; length <= card_at(THREE) + LEGBARO_CARD_BYTES; length = tried_after(length, LENGTHS)) {
+    for (size_t length = 0; length <= card_at(THREE) + LEGBARO_CARD_BYTES;
+         length = tried_after(length, LENGTHS)) {
         struct call call = judging(THREE);
         buffer_resize(&call.args[CARDS], length);
         judged(&call, cut_number(length), "cards of any length");
     }
-    for (size_t length = 0; length <= 2 * LEGBARO_POOLED_BYTES(THREE); length = tried_after(length, LENGTHS)) {
+    for (size_t length = 0; length <= 2 * LEGBARO_POOLED_BYTES(THREE);
+         length = tried_after(length, LENGTHS)) {
         struct call call = judging(THREE), pooling = pooling_of(THREE);
         int fits = length == LEGBARO_POOLED_BYTES(THREE);
         buffer_resize(&call.args[REPLY], length);
         judged(&call, fits ? LEGBARO_OK : LEGBARO_REJECTED, "a pooled reply of any length");
         buffer_resize(&pooling.args[POOLED], length);
-        call_finish(&pooling, fits ? LEGBARO_OK : LEGBARO_WRONG_LENGTH, "room of any length for it");
+        call_finish(&pooling, fits ? LEGBARO_OK : LEGBARO_WRONG_LENGTH,
+                    "room of any length for it");
     }
     test_end();
 }
@@ -169,12 +190,15 @@ static void every_length(void)
 /* The first so many bytes of three replies, with room for a pooled reply of three. */
 static void every_length_of_replies(void)
 {
-    static const uint64_t whole[] = {LEGBARO_BAD_POOL, LEGBARO_BAD_POOL, LEGBARO_WRONG_LENGTH, LEGBARO_OK};
+    static const uint64_t whole[] = {LEGBARO_BAD_POOL, LEGBARO_BAD_POOL, LEGBARO_WRONG_LENGTH,
+                                     LEGBARO_OK};
     test_begin("replies to pool of every length");
-    for (size_t length = 0; length <= THREE * LEGBARO_REPLY_BYTES; length = tried_after(length, LENGTHS)) {
+    for (size_t length = 0; length <= THREE * LEGBARO_REPLY_BYTES;
+         length = tried_after(length, LENGTHS)) {
         struct call pooling = pooling_of(THREE);
         buffer_resize(&pooling.args[REPLIES], length);
-        uint64_t number = length % LEGBARO_REPLY_BYTES ? LEGBARO_WRONG_LENGTH : whole[length / LEGBARO_REPLY_BYTES];
+        uint64_t number = length % LEGBARO_REPLY_BYTES ? LEGBARO_WRONG_LENGTH
+                                                       : whole[length / LEGBARO_REPLY_BYTES];
         call_finish(&pooling, number, "replies of any length");
     }
     test_end();
@@ -191,7 +215,8 @@ static void ids(void)
         for (size_t b = 0; b < counts[i]; b++)
             for (size_t a = 0; a < b; a++) {
                 struct call call = judging(counts[i]);
-                memcpy(call.args[CARDS].bytes + card_at(b) + LEGBARO_CARD_ID, files[a].book.numbers.id, LEGBARO_ID_BYTES);
+                memcpy(call.args[CARDS].bytes + card_at(b) + LEGBARO_CARD_ID,
+                       files[a].book.numbers.id, LEGBARO_ID_BYTES);
                 judged(&call, LEGBARO_BAD_POOL, "an id twice");
             }
     test_end();
@@ -217,8 +242,8 @@ static void mix(uint8_t *bytes, const uint8_t *others)
         bytes[i] ^= others[i];
 }
 
-/* The token drawn of a file, sealed again for a card that differs in its version alone: the record, and its token for the one before's in the
- * xor, are put into a pooled reply. */
+/* The token drawn of a file, sealed again for a card that differs in its version alone: the record,
+ * and its token for the one before's in the xor, are put into a pooled reply. */
 static void reseal(struct buffer *reply, size_t e, uint64_t version)
 {
     const struct book *book = &files[e].book;
@@ -228,10 +253,12 @@ static void reseal(struct buffer *reply, size_t e, uint64_t version)
     other.version = version;
     reference_token(book->key, &book->numbers, files[e].table.bytes, other.open, token);
     mix(reply->bytes + POOLED_XOR, token);
-    reference_fresh_records(book->key, &other, book->blocks, book->marks, other.open, other.open, table.bytes);
+    reference_fresh_records(book->key, &other, book->blocks, book->marks, other.open, other.open,
+                            table.bytes);
     reference_token(book->key, &other, table.bytes, other.open, token);
     mix(reply->bytes + POOLED_XOR, token);
-    memcpy(reply->bytes + ENTRIES + e * ENTRY + ENTRY_RECORD, table.bytes + (other.open - 1) * LEGBARO_RECORD_BYTES, LEGBARO_RECORD_BYTES);
+    memcpy(reply->bytes + ENTRIES + e * ENTRY + ENTRY_RECORD,
+           table.bytes + (other.open - 1) * LEGBARO_RECORD_BYTES, LEGBARO_RECORD_BYTES);
     buffer_free(&table);
 }
 
@@ -243,7 +270,8 @@ static void versions(void)
         for (uint64_t version = FIRST_VERSION; version <= LAST_VERSION; version++) {
             struct call call = judging(THREE);
             reseal(&call.args[REPLY], e, version);
-            judged(&call, version == files[e].book.numbers.version ? LEGBARO_OK : LEGBARO_REJECTED, "a record of a version");
+            judged(&call, version == files[e].book.numbers.version ? LEGBARO_OK : LEGBARO_REJECTED,
+                   "a record of a version");
         }
     test_end();
 }
@@ -254,13 +282,15 @@ static void versions(void)
 static uint64_t cause_of(const struct call *pooling, size_t e)
 {
     struct call cause = file_call(&files[e], CAUSE);
-    memcpy(cause.args[REPLY].bytes, pooling->args[REPLIES].bytes + e * LEGBARO_REPLY_BYTES, LEGBARO_REPLY_BYTES);
+    memcpy(cause.args[REPLY].bytes, pooling->args[REPLIES].bytes + e * LEGBARO_REPLY_BYTES,
+           LEGBARO_REPLY_BYTES);
     uint64_t number = call_compare(&cause);
     call_free(&cause);
     return LEGBARO_NUMBER(number);
 }
 
-/* Every byte of a single reply after its header, altered in one of the files: the pool is accepted exactly where the single reply is. */
+/* Every byte of a single reply after its header, altered in one of the files: the pool is accepted
+ * exactly where the single reply is. */
 static void as_single(void)
 {
     test_begin("pools of replies of which one is altered, beside single judging");
@@ -268,7 +298,8 @@ static void as_single(void)
         for (size_t at = REPLY_ID; at <= LEGBARO_REPLY_BYTES; at = tried_after(at, LENGTHS)) {
             struct call pooling = pooling_of(THREE);
             if (at < LEGBARO_REPLY_BYTES)
-                pooling.args[REPLIES].bytes[e * LEGBARO_REPLY_BYTES + at] ^= (uint8_t)(1 + chance_below(UINT8_MAX));
+                pooling.args[REPLIES].bytes[e * LEGBARO_REPLY_BYTES + at] ^=
+                    (uint8_t)(1 + chance_below(UINT8_MAX));
             int sound = cause_of(&pooling, e) == 0;
             struct call call = judging_with(&pooling, THREE);
             expect(sound == (at == LEGBARO_REPLY_BYTES), "the altered reply rejected");
@@ -277,7 +308,8 @@ static void as_single(void)
     test_end();
 }
 
-/* Alters the digest of every reply by any bits, the last one's so that all the differences cancel, or do so but for one bit. */
+/* Alters the digest of every reply by any bits, the last one's so that all the differences cancel,
+ * or do so but for one bit. */
 static void alter_digests(struct buffer *replies, size_t count, int cancel)
 {
     uint8_t difference[TOKEN_BYTES], sum[TOKEN_BYTES] = {0};
@@ -290,7 +322,8 @@ static void alter_digests(struct buffer *replies, size_t count, int cancel)
     mix(replies->bytes + (count - 1) * LEGBARO_REPLY_BYTES + REPLY_DIGEST, sum);
 }
 
-/* What the xor gives up: no single reply would be accepted, and the pool is where their differences cancel. */
+/* What the xor gives up: no single reply would be accepted, and the pool is where their differences
+ * cancel. */
 static void cancelling(void)
 {
     test_begin("wrong digests whose differences cancel, or all but one bit of them");
@@ -325,7 +358,8 @@ static void orders(void)
 
 /* ---- Lists on several files ---- */
 
-/* A pooled judging of all these files, from any of them on, after draws of some; at times with a bit of the reply flipped. */
+/* A pooled judging of all these files, from any of them on, after draws of some; at times with a
+ * bit of the reply flipped. */
 static void pool_step(struct file *const *held, size_t count)
 {
     struct file *turned[THREE];
@@ -345,7 +379,8 @@ static void pool_step(struct file *const *held, size_t count)
 /* Any call on one of these files; the state may turn it away. */
 static void single_step(struct file *const *held, size_t count)
 {
-    static const enum kind kinds[] = {UPDATE, DELETE, APPEND, LOAD, BATCH, ASK_UPDATE, COMMIT, DROP, DRAW, JUDGE};
+    static const enum kind kinds[] = {UPDATE,     DELETE, APPEND, LOAD, BATCH,
+                                      ASK_UPDATE, COMMIT, DROP,   DRAW, JUDGE};
     struct file *file = held[chance_below(count)];
     struct call call = file_call(file, kinds[chance_below(COUNT(kinds))]);
     file_run(file, &call);

@@ -16,8 +16,9 @@ static uint64_t positions(uint64_t r, uint64_t planned, uint64_t present)
 static void expect_positions(uint64_t r, uint64_t planned, uint64_t present, uint64_t number)
 {
     uint64_t returned = positions(r, planned, present);
-    expect(returned == number, "positions of %llu, %llu, %llu: %llu, not %llu", (unsigned long long)r, (unsigned long long)planned,
-           (unsigned long long)present, (unsigned long long)number, (unsigned long long)returned);
+    expect(returned == number, "positions of %llu, %llu, %llu: %llu, not %llu",
+           (unsigned long long)r, (unsigned long long)planned, (unsigned long long)present,
+           (unsigned long long)number, (unsigned long long)returned);
 }
 
 /* The edges of each limit, whatever the other numbers are. */
@@ -50,11 +51,13 @@ static void least(uint64_t r, uint64_t planned, uint64_t present)
     if (LEGBARO_CODE(number) == LEGBARO_OK) {
         uint64_t given = LEGBARO_NUMBER(number);
         expect(given * present >= r * planned && (given - 1) * present < r * planned, "rounded up");
-        expect(given >= r && given <= planned, "no fewer than asked for, and no more than the rows");
+        expect(given >= r && given <= planned,
+               "no fewer than asked for, and no more than the rows");
     }
 }
 
-/* All small numbers, those outside the limits too, and random ones inside and a little outside them. */
+/* All small numbers, those outside the limits too, and random ones inside and a little outside
+ * them. */
 static void many(void)
 {
     for (uint64_t planned = 0; planned <= 12; planned++)
@@ -62,8 +65,11 @@ static void many(void)
             for (uint64_t r = 0; r <= present + 1; r++)
                 least(r, planned, present);
     for (int i = 0; i < TRIED; i++) {
-        uint64_t planned = chance_below(chance_of(2) ? 2000 : LEGBARO_MOST_ROWS + 10), present = chance_below(planned + 2);
-        least(chance_below((present < LEGBARO_MOST_POSITIONS ? present : LEGBARO_MOST_POSITIONS) + 2), planned, present);
+        uint64_t planned = chance_below(chance_of(2) ? 2000 : LEGBARO_MOST_ROWS + 10),
+                 present = chance_below(planned + 2);
+        least(
+            chance_below((present < LEGBARO_MOST_POSITIONS ? present : LEGBARO_MOST_POSITIONS) + 2),
+            planned, present);
     }
 }
 

@@ -1,13 +1,14 @@
 /*
- * See cases.h. The blocks lie on pages that the program may not touch, a block to a page. At the first touch of a page the system reports it: the
- * page is noted, and may be read from then on. So the order in which a call comes to its blocks is seen from outside.
+ * See cases.h. The blocks lie on pages that the program may not touch, a block to a page. At the
+ * first touch of a page the system reports it: the page is noted, and may be read from then on. So
+ * the order in which a call comes to its blocks is seen from outside.
  */
 #define _DEFAULT_SOURCE
 #include "cases.h"
 
-#include "support/files.h"
-#include "support/expect.h"
 #include "reference/reference.h"
+#include "support/expect.h"
+#include "support/files.h"
 
 #include <signal.h>
 #include <string.h>
@@ -21,7 +22,8 @@ static size_t page_count;
 static uint64_t touched[MOST_PAGES];
 static volatile size_t touches;
 
-/* Notes a first touch and opens the page. Any other fault ends the program, as it would without this. */
+/* Notes a first touch and opens the page. Any other fault ends the program, as it would without
+ * this. */
 static void on_touch(int signal_number, siginfo_t *what, void *context)
 {
     uint8_t *at = what->si_addr;
@@ -46,7 +48,8 @@ static uint64_t run_on_pages(struct call *call)
     expect(pages != MAP_FAILED, "pages for the blocks");
     memcpy(pages, own.bytes, own.length);
     sigemptyset(&noted.sa_mask);
-    expect(mprotect(pages, own.length, PROT_NONE) == 0 && sigaction(SIGSEGV, &noted, &before) == 0, "pages that are shut");
+    expect(mprotect(pages, own.length, PROT_NONE) == 0 && sigaction(SIGSEGV, &noted, &before) == 0,
+           "pages that are shut");
     call->args[BLOCKS].bytes = pages;
     uint64_t number = call_library(call);
     call->args[BLOCKS] = own;
@@ -55,7 +58,8 @@ static uint64_t run_on_pages(struct call *call)
     return number;
 }
 
-/* Expects the touches to be the blocks of the rows drawn: position by position, in a row from the newest column back to the oldest. */
+/* Expects the touches to be the blocks of the rows drawn: position by position, in a row from the
+ * newest column back to the oldest. */
 static void expect_order(const char *name, const uint8_t *key, uint64_t d, uint64_t r, uint64_t n)
 {
     size_t seen = 0;
@@ -63,7 +67,8 @@ static void expect_order(const char *name, const uint8_t *key, uint64_t d, uint6
         uint64_t row = reference_permuted(key, d, j - 1).end;
         for (uint64_t column = (n + d - row - 1) / d; column > 0; column--) {
             uint64_t block = (column - 1) * d + row;
-            expect(seen < touches && touched[seen] == block, "%s: touch %zu, at position %llu, to be of block %llu", name, seen + 1,
+            expect(seen < touches && touched[seen] == block,
+                   "%s: touch %zu, at position %llu, to be of block %llu", name, seen + 1,
                    (unsigned long long)j, (unsigned long long)(block + 1));
             seen++;
         }

@@ -1,14 +1,16 @@
-/* "Turned away" of papers 01 and 02: the small input of each refusal, and what is taken at the edge. */
+/* "Turned away" of papers 01 and 02: the small input of each refusal, and what is taken at the
+ * edge. */
 #include "cases.h"
 
-#include "support/files.h"
-#include "support/expect.h"
 #include "support/draw_times.h"
+#include "support/expect.h"
+#include "support/files.h"
 #include "support/pool_calls.h"
 
 enum { B = 28, D = 5, R = 3, T = 3 };
 
-/* Expects a call of a kind on the file, with nothing wrong in its arguments, to be refused with a code. */
+/* Expects a call of a kind on the file, with nothing wrong in its arguments, to be refused with a
+ * code. */
 static void refused(const struct file *file, enum kind kind, uint64_t code, const char *what)
 {
     struct call call = file_call(file, kind);
@@ -49,7 +51,8 @@ static void broken_loads(const struct file *file)
 }
 
 /* A batch of one item with one field altered; a batch of two items on blocks 2 and `second`. */
-static void broken_item(const struct file *file, size_t offset, unsigned width, uint64_t value, uint64_t code, const char *what)
+static void broken_item(const struct file *file, size_t offset, unsigned width, uint64_t value,
+                        uint64_t code, const char *what)
 {
     struct call call = file_batch_call(file, 1);
     buffer_put_number(&call.args[ITEMS], file_item_at(file, 0, offset), width, value);
@@ -63,7 +66,8 @@ static void two_items(const struct file *file, uint64_t second, uint64_t code, c
     call_finish(&call, code, what);
 }
 
-/* Code 14's small inputs: no item, an item less or more a byte, another kind, numbers that do not rise. */
+/* Code 14's small inputs: no item, an item less or more a byte, another kind, numbers that do not
+ * rise. */
 static void broken_batches(const struct file *file)
 {
     size_t size = file_item_at(file, 1, 0), lengths[] = {0, size - 1, size + 1};
@@ -75,7 +79,8 @@ static void broken_batches(const struct file *file)
     broken_item(file, LEGBARO_ITEM_KIND, 1, 0, LEGBARO_BAD_BATCH, "an item of kind 0");
     broken_item(file, LEGBARO_ITEM_KIND, 1, 3, LEGBARO_BAD_BATCH, "an item of kind 3");
     broken_item(file, LEGBARO_ITEM_BLOCK, 4, 0, LEGBARO_NO_SUCH_BLOCK, "an item on block 0");
-    broken_item(file, LEGBARO_ITEM_BLOCK, 4, D + 1, LEGBARO_NO_SUCH_BLOCK, "an item on block n + 1");
+    broken_item(file, LEGBARO_ITEM_BLOCK, 4, D + 1, LEGBARO_NO_SUCH_BLOCK,
+                "an item on block n + 1");
     two_items(file, 1, LEGBARO_BAD_BATCH, "block 2, then block 1");
     two_items(file, 2, LEGBARO_BAD_BATCH, "block 2 twice");
     two_items(file, 3, LEGBARO_OK, "block 2, then block 3");
@@ -92,7 +97,8 @@ static void most_items(uint64_t version)
     file_end(&file);
 }
 
-/* Code 15's small inputs, which files of version 1 can't have: a mark 2 in an update, in a deletion, in an item and in a proof. */
+/* Code 15's small inputs, which files of version 1 can't have: a mark 2 in an update, in a
+ * deletion, in an item and in a proof. */
 static void broken_marks(const struct file *file)
 {
     static const enum kind kinds[] = {UPDATE, DELETE};
@@ -182,7 +188,8 @@ static void counter_at_most(const struct file *file)
 {
     struct call call = file_call(file, UPDATE);
     int two_steps = file->book.numbers.version == LEGBARO_TWO_STEPS;
-    buffer_put_number(&call.args[CARD], two_steps ? LEGBARO_CARD_LAST_ISSUED : LEGBARO_CARD_COUNTER, 8, LEGBARO_MOST_COUNTER);
+    buffer_put_number(&call.args[CARD], two_steps ? LEGBARO_CARD_LAST_ISSUED : LEGBARO_CARD_COUNTER,
+                      8, LEGBARO_MOST_COUNTER);
     call_finish(&call, LEGBARO_COUNTER_AT_MOST, "ctr, or last issued, 4,294,967,295");
 }
 
@@ -192,7 +199,11 @@ static void without_right(const struct file *file)
     static const struct {
         enum kind kind;
         uint64_t role;
-    } calls[] = {{UPDATE, LEGBARO_MANAGER}, {DELETE, LEGBARO_SURVEYOR}, {COMMIT, LEGBARO_SURVEYOR}, {DRAW, LEGBARO_SURVEYOR}, {APPEND, 0}};
+    } calls[] = {{UPDATE, LEGBARO_MANAGER},
+                 {DELETE, LEGBARO_SURVEYOR},
+                 {COMMIT, LEGBARO_SURVEYOR},
+                 {DRAW, LEGBARO_SURVEYOR},
+                 {APPEND, 0}};
     for (size_t i = 0; i < sizeof calls / sizeof *calls; i++) {
         struct call call = file_call(file, calls[i].kind);
         call.role = calls[i].role;
@@ -200,8 +211,8 @@ static void without_right(const struct file *file)
     }
 }
 
-/* Code 23's small inputs: no card, one card, a card twice. And two cards, of which the second has a length field of 42, is a byte short, has a
- * byte after it, or no token drawn. */
+/* Code 23's small inputs: no card, one card, a card twice. And two cards, of which the second has a
+ * length field of 42, is a byte short, has a byte after it, or no token drawn. */
 static void broken_pools(const struct file *const *two)
 {
     const struct file *twice[] = {two[0], two[0]};
@@ -239,7 +250,8 @@ static void broken_pools(const struct file *const *two)
     call_finish(&call, LEGBARO_OK, "two cards");
 }
 
-/* No reply to pool, one, a byte less than two, one of version 0, and a pooled reply that is a byte short. */
+/* No reply to pool, one, a byte less than two, one of version 0, and a pooled reply that is a byte
+ * short. */
 static void broken_poolings(const struct file *const *two)
 {
     struct call call = pooling_call(two, 0);
@@ -333,7 +345,8 @@ static void one_block(uint64_t version)
     file_end(&file);
 }
 
-/* What is taken: r 5 with d 5; t = 1 allows one draw; n from 1; for a proof, a table that is just long enough or longer; 512 positions. */
+/* What is taken: r 5 with d 5; t = 1 allows one draw; n from 1; for a proof, a table that is just
+ * long enough or longer; 512 positions. */
 static void taken(uint64_t version)
 {
     struct call call = {.kind = POSITIONS, .r = 1, .d = LEGBARO_MOST_POSITIONS, .n = 1};

@@ -2,15 +2,16 @@
 #include "cases.h"
 
 #include "support/chance.h"
-#include "support/files.h"
 #include "support/expect.h"
+#include "support/files.h"
 #include "support/pool_calls.h"
 
 #define COUNT(array) (sizeof(array) / sizeof *(array))
 
 enum { B = 28, D = 5, R = 3, T = 3, N = 7, ROUNDS = 400, LONGEST = 130 };
 
-/* The three, their neighbours, numbers that are like them in their lowest byte or their lowest four, and the greatest. */
+/* The three, their neighbours, numbers that are like them in their lowest byte or their lowest
+ * four, and the greatest. */
 static const uint64_t roles[] = {0,
                                  LEGBARO_SURVEYOR,
                                  LEGBARO_PLANNER,
@@ -48,7 +49,9 @@ static void end(void)
 /* A call with nothing wrong in it, but for asks, commits and drops of versions that have none. */
 static struct call faultless(enum kind kind)
 {
-    const struct file *file = kind == JUDGE || kind == CAUSE ? &judging : kind == COMMIT || kind == DROP ? &settling : &changing;
+    const struct file *file = kind == JUDGE || kind == CAUSE   ? &judging
+                              : kind == COMMIT || kind == DROP ? &settling
+                                                               : &changing;
     return kind == JUDGE_POOL ? pool_among_others(&judging) : file_call(file, kind);
 }
 
@@ -59,12 +62,13 @@ static void expect_buffers(const struct call *call, const struct call *other, co
 {
     for (int argument = 0; argument < ARGUMENTS; argument++)
         if (call_takes(call->kind, argument))
-            expect(buffer_same(&call->args[argument], &other->args[argument]), "%s, role %llu: buffers %s", call_name(call->kind),
+            expect(buffer_same(&call->args[argument], &other->args[argument]),
+                   "%s, role %llu: buffers %s", call_name(call->kind),
                    (unsigned long long)call->role, what);
 }
 
-/* The same call by every role: "Permitted calls answer as without roles", so all as the planner's does; to others 22, and every buffer stays.
- * Frees the call. */
+/* The same call by every role: "Permitted calls answer as without roles", so all as the planner's
+ * does; to others 22, and every buffer stays. Frees the call. */
 static void by_every_role(struct call *passed)
 {
     struct call planners = call_copy(passed);
@@ -86,8 +90,8 @@ static void by_every_role(struct call *passed)
     call_free(passed);
 }
 
-/* "Role 1, surveyor, may append and load, or ask these; role 2, planner, everything; role 3, manager, draw, judge and ask the cause"; a pooled
- * reply is "judged by roles 2 and 3" */
+/* "Role 1, surveyor, may append and load, or ask these; role 2, planner, everything; role 3,
+ * manager, draw, judge and ask the cause"; a pooled reply is "judged by roles 2 and 3" */
 static void permissions(void)
 {
     test_begin("the permissions of each role");
@@ -96,7 +100,8 @@ static void permissions(void)
         int auditing = kind == DRAW || kind == JUDGE || kind == CAUSE || kind == JUDGE_POOL;
         for (size_t i = 0; i < COUNT(roles); i++) {
             int may = roles[i] == 2 || (roles[i] == 1 && adding) || (roles[i] == 3 && auditing);
-            expect(call_permits(kind, roles[i]) == may, "%s by role %llu", call_name(kind), (unsigned long long)roles[i]);
+            expect(call_permits(kind, roles[i]) == may, "%s by role %llu", call_name(kind),
+                   (unsigned long long)roles[i]);
         }
     }
     test_end();
@@ -131,7 +136,8 @@ static void disturb(struct call *call)
 
 static void disturbed_calls(uint64_t version)
 {
-    test_begin("calls with something wrong in them by every role, version %llu", (unsigned long long)version);
+    test_begin("calls with something wrong in them by every role, version %llu",
+               (unsigned long long)version);
     begin(version);
     for (uint64_t i = 0; i < ROUNDS; i = tried_after(i, 5)) {
         struct call call = faultless((enum kind)(UPDATE + chance_below(JUDGE_POOL + 1 - UPDATE)));
@@ -146,8 +152,12 @@ static void disturbed_calls(uint64_t version)
 /* A call of any numbers, and buffers of any bytes and any length. */
 static struct call any_call(enum kind kind)
 {
-    struct call call = {
-        .kind = kind, .m = chance(), .year = chance(), .month = chance(), .day = chance(), .minute = chance_below(LEGBARO_DAY_MINUTES)};
+    struct call call = {.kind = kind,
+                        .m = chance(),
+                        .year = chance(),
+                        .month = chance(),
+                        .day = chance(),
+                        .minute = chance_below(LEGBARO_DAY_MINUTES)};
     for (int argument = 0; argument < ARGUMENTS; argument++)
         if (call_takes(kind, argument)) {
             call.args[argument] = buffer_blank(chance_below(LONGEST));

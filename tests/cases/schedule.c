@@ -1,18 +1,24 @@
 /*
- * Dates, windows and the wait. Which dates there are, and their weekdays, come from the C library's calendar; the wait is compared with a
- * look at minute after minute.
+ * Dates, windows and the wait. Which dates there are, and their weekdays, come from the C library's
+ * calendar; the wait is compared with a look at minute after minute.
  */
 #define _DEFAULT_SOURCE
 #include "cases.h"
 
 #include "support/chance.h"
-#include "support/files.h"
-#include "support/expect.h"
 #include "support/draw_times.h"
+#include "support/expect.h"
+#include "support/files.h"
 
 #include <time.h>
 
-enum { FIRST_YEAR = 2000, LAST_YEAR = 2099, WEEKDAYS = 7, DAY = LEGBARO_DAY_MINUTES, WEEK = LEGBARO_WEEK_MINUTES };
+enum {
+    FIRST_YEAR = 2000,
+    LAST_YEAR = 2099,
+    WEEKDAYS = 7,
+    DAY = LEGBARO_DAY_MINUTES,
+    WEEK = LEGBARO_WEEK_MINUTES
+};
 enum { RANDOM_SCHEDULES = 3000, DRAWS = 2000 };
 enum { MONDAY, TUESDAY, WEDNESDAY, THURSDAY, FRIDAY, SATURDAY, SUNDAY };
 
@@ -30,9 +36,11 @@ static uint64_t wait_of(const struct buffer *schedule, const struct when *when)
 static void expect_wait(const struct buffer *schedule, const struct when *when, uint64_t minutes)
 {
     uint64_t number = wait_of(schedule, when);
-    expect(number == LEGBARO_OK + 256 * minutes, "wait at %llu-%llu-%llu, minute %llu: %llu, not %llu", (unsigned long long)when->year,
-           (unsigned long long)when->month, (unsigned long long)when->day, (unsigned long long)when->minute,
-           (unsigned long long)minutes, (unsigned long long)LEGBARO_NUMBER(number));
+    expect(number == LEGBARO_OK + 256 * minutes,
+           "wait at %llu-%llu-%llu, minute %llu: %llu, not %llu", (unsigned long long)when->year,
+           (unsigned long long)when->month, (unsigned long long)when->day,
+           (unsigned long long)when->minute, (unsigned long long)minutes,
+           (unsigned long long)LEGBARO_NUMBER(number));
 }
 
 /* ---- The calendar ---- */
@@ -43,7 +51,8 @@ static int weekday_in_c(uint64_t year, uint64_t month, uint64_t day)
     struct tm date = {.tm_year = (int)year - 1900, .tm_mon = (int)month - 1, .tm_mday = (int)day};
     time_t noon = timegm(&date) + 12 * 60 * 60;
     struct tm back = *gmtime(&noon);
-    int same = back.tm_year == (int)year - 1900 && back.tm_mon == (int)month - 1 && back.tm_mday == (int)day;
+    int same = back.tm_year == (int)year - 1900 && back.tm_mon == (int)month - 1 &&
+               back.tm_mday == (int)day;
     return same ? (back.tm_wday + 6) % WEEKDAYS : -1;
 }
 
@@ -53,8 +62,8 @@ static void date(const struct buffer *mondays, uint64_t year, uint64_t month, ui
     struct when when = {year, month, day, 0};
     int weekday = year < FIRST_YEAR || year > LAST_YEAR ? -1 : weekday_in_c(year, month, day);
     if (weekday < 0)
-        expect(wait_of(mondays, &when) == LEGBARO_BAD_TIME, "%llu-%llu-%llu to be no date", (unsigned long long)year,
-               (unsigned long long)month, (unsigned long long)day);
+        expect(wait_of(mondays, &when) == LEGBARO_BAD_TIME, "%llu-%llu-%llu to be no date",
+               (unsigned long long)year, (unsigned long long)month, (unsigned long long)day);
     else
         expect_wait(mondays, &when, (uint64_t)((WEEKDAYS - weekday) % WEEKDAYS) * DAY);
 }
@@ -75,7 +84,8 @@ static void every_date(void)
 /* Numbers of more than 32 bits are no date; minutes are those of a day. */
 static void large_numbers(void)
 {
-    static const uint64_t large[] = {UINT64_C(1) << 32, UINT64_C(3) << 32, UINT64_C(1) << 40, UINT64_C(1) << 63};
+    static const uint64_t large[] = {UINT64_C(1) << 32, UINT64_C(3) << 32, UINT64_C(1) << 40,
+                                     UINT64_C(1) << 63};
     test_begin("dates and minutes of large numbers");
     struct buffer schedule = any_schedule();
     for (size_t i = 0; i < sizeof large / sizeof *large; i++)
@@ -87,7 +97,8 @@ static void large_numbers(void)
         }
     for (uint64_t minute = 0; minute < 2 * DAY; minute++) {
         struct when when = {2026, 11, 16, minute};
-        expect((wait_of(&schedule, &when) == LEGBARO_BAD_TIME) == (minute >= DAY), "minute %llu", (unsigned long long)minute);
+        expect((wait_of(&schedule, &when) == LEGBARO_BAD_TIME) == (minute >= DAY), "minute %llu",
+               (unsigned long long)minute);
     }
     buffer_free(&schedule);
     test_end();
@@ -95,12 +106,14 @@ static void large_numbers(void)
 
 /* ---- Windows ---- */
 
-/* Whether a schedule allows a minute of a weekday, by its own window or by that of the day before. */
+/* Whether a schedule allows a minute of a weekday, by its own window or by that of the day
+ * before. */
 static int allows(const struct buffer *schedule, uint64_t weekday, uint64_t minute)
 {
     size_t own = weekday * 4, before = (weekday + WEEKDAYS - 1) % WEEKDAYS * 4;
     uint64_t start = buffer_number(schedule, own, 2), end = buffer_number(schedule, own + 2, 2);
-    uint64_t last_start = buffer_number(schedule, before, 2), last_end = buffer_number(schedule, before + 2, 2);
+    uint64_t last_start = buffer_number(schedule, before, 2),
+             last_end = buffer_number(schedule, before + 2, 2);
     if (start <= end ? start <= minute && minute < end : start <= minute)
         return 1;
     return last_end < last_start && minute < last_end;
@@ -123,7 +136,8 @@ static void random_plans(void)
         struct when when = any_time();
         struct buffer schedule = chance_of(4) ? schedule_blank() : any_schedule();
         for (uint64_t windows = chance_below(3); windows; windows--)
-            schedule_window(&schedule, (unsigned)chance_below(WEEKDAYS), chance_below(DAY), chance_below(DAY));
+            schedule_window(&schedule, (unsigned)chance_below(WEEKDAYS), chance_below(DAY),
+                            chance_below(DAY));
         expect_wait(&schedule, &when, scanned(&schedule, &when));
         buffer_free(&schedule);
     }
@@ -144,12 +158,15 @@ static void one_window(unsigned weekday, uint64_t start, uint64_t end)
     buffer_free(&schedule);
 }
 
-/* Within a day, up to midnight, past it, all but one minute, one minute, none; on a day in the week and from Sunday into Monday. */
+/* Within a day, up to midnight, past it, all but one minute, one minute, none; on a day in the week
+ * and from Sunday into Monday. */
 static void windows(void)
 {
-    static const uint64_t ends[][2] = {{600, 700},   {0, DAY - 1},       {1200, 0}, {1200, 1}, {1200, 300}, {1, 0},
-                                       {DAY - 1, 0}, {DAY - 1, DAY - 2}, {0, 1},    {0, 0},    {700, 700},  {DAY - 1, DAY - 1}};
-    test_begin("one window in the week: within a day, up to midnight and past it, Sunday into Monday");
+    static const uint64_t ends[][2] = {{600, 700},  {0, DAY - 1}, {1200, 0},    {1200, 1},
+                                       {1200, 300}, {1, 0},       {DAY - 1, 0}, {DAY - 1, DAY - 2},
+                                       {0, 1},      {0, 0},       {700, 700},   {DAY - 1, DAY - 1}};
+    test_begin(
+        "one window in the week: within a day, up to midnight and past it, Sunday into Monday");
     for (size_t i = 0; i < sizeof ends / sizeof *ends; i++) {
         one_window(MONDAY, ends[i][0], ends[i][1]);
         one_window(THURSDAY, ends[i][0], ends[i][1]);
@@ -161,7 +178,8 @@ static void windows(void)
 /* 29 February 2000 was a Tuesday; 31 December 2099 is a Thursday, and a wait goes on after it. */
 static void ends_of_the_calendar(void)
 {
-    struct when leap_day = {2000, 2, 29, 1430}, first_day = {2000, 1, 1, 0}, last_day = {2099, 12, 31, 1439};
+    struct when leap_day = {2000, 2, 29, 1430}, first_day = {2000, 1, 1, 0},
+                last_day = {2099, 12, 31, 1439};
     test_begin("29 February 2000, 1 January 2000, 31 December 2099");
     struct buffer schedule = schedule_blank();
     schedule_window(&schedule, WEDNESDAY, 5, 10);

@@ -1,5 +1,5 @@
-/* Planning sheets: the chance is held to exact fractions, by libcrypto's large numbers, and the sheets of small files to all rows and draws
- * that there are. */
+/* Planning sheets: the chance is held to exact fractions, by libcrypto's large numbers, and the
+ * sheets of small files to all rows and draws that there are. */
 #include "cases.h"
 
 #include "support/calls.h"
@@ -31,9 +31,10 @@ static uint64_t ask(struct call call, struct sheet *sheet)
 {
     uint64_t code = call_compare(&call);
     if (call.args[OUT].length == LEGBARO_SHEET_BYTES) {
-        struct sheet written = {number_at(&call, LEGBARO_SHEET_TABLE), number_at(&call, LEGBARO_SHEET_TURNS),
-                                number_at(&call, LEGBARO_SHEET_LEAST), number_at(&call, LEGBARO_SHEET_MOST),
-                                number_at(&call, LEGBARO_SHEET_ESCAPE)};
+        struct sheet written = {
+            number_at(&call, LEGBARO_SHEET_TABLE), number_at(&call, LEGBARO_SHEET_TURNS),
+            number_at(&call, LEGBARO_SHEET_LEAST), number_at(&call, LEGBARO_SHEET_MOST),
+            number_at(&call, LEGBARO_SHEET_ESCAPE)};
         *sheet = written;
     }
     call_free(&call);
@@ -44,23 +45,29 @@ static struct sheet taken(const struct numbers *of)
 {
     struct sheet sheet = {0, 0, 0, 0, 0};
     uint64_t code = ask(call_sheet(of->B, of->d, of->r, of->t, of->n, of->m), &sheet);
-    expect(code == LEGBARO_OK, "a sheet for d %llu, r %llu, n %llu, m %llu", LLU(of->d), LLU(of->r), LLU(of->n), LLU(of->m));
+    expect(code == LEGBARO_OK, "a sheet for d %llu, r %llu, n %llu, m %llu", LLU(of->d), LLU(of->r),
+           LLU(of->n), LLU(of->m));
     return sheet;
 }
 
-/* "never under the exact value and less than r units above it": with N and D the products of d-m-j and of d-j for j from 0 to r-1, the
- * figure times D is N × 2^32 at least, and less than that and r × D. */
+/* "never under the exact value and less than r units above it": with N and D the products of d-m-j
+ * and of d-j for j from 0 to r-1, the figure times D is N × 2^32 at least, and less than that and r
+ * × D. */
 static void expect_fraction(const struct numbers *of, uint64_t figure)
 {
     BIGNUM *exact = BN_new(), *unit = BN_new(), *above = BN_new(), *given = BN_new();
     int done = exact && unit && above && given && BN_one(exact) && BN_one(unit);
     for (uint64_t j = 0; done && j < of->r; j++)
-        done = BN_mul_word(exact, of->d - of->m > j ? of->d - of->m - j : 0) && BN_mul_word(unit, of->d - j);
-    done = done && BN_lshift(exact, exact, 32) && BN_copy(given, unit) && BN_mul_word(given, figure) && BN_copy(above, unit) &&
-           BN_mul_word(above, of->r) && BN_add(above, above, exact);
+        done = BN_mul_word(exact, of->d - of->m > j ? of->d - of->m - j : 0) &&
+               BN_mul_word(unit, of->d - j);
+    done = done && BN_lshift(exact, exact, 32) && BN_copy(given, unit) &&
+           BN_mul_word(given, figure) && BN_copy(above, unit) && BN_mul_word(above, of->r) &&
+           BN_add(above, above, exact);
     expect(done, "large numbers");
-    expect(BN_cmp(given, exact) >= 0, "the chance for d %llu, r %llu, m %llu is not under", LLU(of->d), LLU(of->r), LLU(of->m));
-    expect(BN_cmp(given, above) < 0, "the chance for d %llu, r %llu, m %llu is not r above", LLU(of->d), LLU(of->r), LLU(of->m));
+    expect(BN_cmp(given, exact) >= 0, "the chance for d %llu, r %llu, m %llu is not under",
+           LLU(of->d), LLU(of->r), LLU(of->m));
+    expect(BN_cmp(given, above) < 0, "the chance for d %llu, r %llu, m %llu is not r above",
+           LLU(of->d), LLU(of->r), LLU(of->m));
     BN_free(exact);
     BN_free(unit);
     BN_free(above);
@@ -70,8 +77,10 @@ static void expect_fraction(const struct numbers *of, uint64_t figure)
 /* What a chance is at its ends. */
 static void expect_ends(const struct numbers *of, uint64_t figure)
 {
-    expect((figure == LEGBARO_ESCAPE_ONE) == (of->m == 0), "a chance of 1 where no row is damaged, and nowhere else");
-    expect((figure == 0) == (of->r > of->d - of->m), "a chance of 0 where a damaged row is always drawn, and nowhere else");
+    expect((figure == LEGBARO_ESCAPE_ONE) == (of->m == 0),
+           "a chance of 1 where no row is damaged, and nowhere else");
+    expect((figure == 0) == (of->r > of->d - of->m),
+           "a chance of 0 where a damaged row is always drawn, and nowhere else");
 }
 
 static int by_size(const void *a, const void *b)
@@ -80,7 +89,8 @@ static int by_size(const void *a, const void *b)
     return (x > y) - (x < y);
 }
 
-/* Counts the blocks of each row, block by block: the r rows with the fewest have the least, the r with the most have the most. */
+/* Counts the blocks of each row, block by block: the r rows with the fewest have the least, the r
+ * with the most have the most. */
 static void expect_counted(const struct numbers *of, const struct sheet *sheet)
 {
     unsigned rows[COUNTED_ROWS] = {0};
@@ -94,8 +104,9 @@ static void expect_counted(const struct numbers *of, const struct sheet *sheet)
         least += rows[i];
         most += rows[of->d - 1 - i];
     }
-    expect(sheet->least == least && sheet->most == most, "%llu to %llu hashes for d %llu, r %llu, n %llu", LLU(least), LLU(most),
-           LLU(of->d), LLU(of->r), LLU(of->n));
+    expect(sheet->least == least && sheet->most == most,
+           "%llu to %llu hashes for d %llu, r %llu, n %llu", LLU(least), LLU(most), LLU(of->d),
+           LLU(of->r), LLU(of->n));
 }
 
 static unsigned bits(unsigned set)
@@ -119,7 +130,8 @@ static void expect_all_draws(const struct numbers *of, uint64_t figure)
             missed += !(drawn & damaged);
         }
     expect(figure * draws >= missed << 32 && figure * draws < (missed << 32) + of->r * draws,
-           "%llu of %llu draws miss: d %llu, r %llu, m %llu", LLU(missed), LLU(draws), LLU(of->d), LLU(of->r), LLU(of->m));
+           "%llu of %llu draws miss: d %llu, r %llu, m %llu", LLU(missed), LLU(draws), LLU(of->d),
+           LLU(of->r), LLU(of->m));
 }
 
 static void expect_sheet(uint64_t B, uint64_t d, uint64_t r, uint64_t t, uint64_t n, uint64_t m)
@@ -128,8 +140,10 @@ static void expect_sheet(uint64_t B, uint64_t d, uint64_t r, uint64_t t, uint64_
     struct sheet sheet = taken(&of);
     expect(sheet.table == t * LEGBARO_RECORD_BYTES, "the table's bytes");
     expect(sheet.turns >= r, "a turn for each position");
-    expect(sheet.least <= sheet.most && sheet.most <= n && sheet.most - sheet.least <= r, "the least hashes, then the most");
-    expect((sheet.least == sheet.most) == (n % d == 0 || r == d), "as many hashes for any rows where n is a multiple of d, or r is d");
+    expect(sheet.least <= sheet.most && sheet.most <= n && sheet.most - sheet.least <= r,
+           "the least hashes, then the most");
+    expect((sheet.least == sheet.most) == (n % d == 0 || r == d),
+           "as many hashes for any rows where n is a multiple of d, or r is d");
     expect_fraction(&of, sheet.escape);
     expect_ends(&of, sheet.escape);
     expect_counted(&of, &sheet);
@@ -148,12 +162,19 @@ static void small_files(void)
     test_end();
 }
 
-/* The most of every number with the least of the others, and all at their most; m, r and d - m side by side; n below, at and above d. */
+/* The most of every number with the least of the others, and all at their most; m, r and d - m side
+ * by side; n below, at and above d. */
 static void edges(void)
 {
-    enum { B = LEGBARO_MOST_BLOCK_BYTES, D = LEGBARO_MOST_ROWS, R = LEGBARO_MOST_POSITIONS, T = LEGBARO_MOST_TOKENS };
+    enum {
+        B = LEGBARO_MOST_BLOCK_BYTES,
+        D = LEGBARO_MOST_ROWS,
+        R = LEGBARO_MOST_POSITIONS,
+        T = LEGBARO_MOST_TOKENS
+    };
     enum { N = LEGBARO_MOST_BLOCKS };
-    static const uint64_t rows[] = {1, 2, 3, 4, 5, 16, 17, 511, 512, 513, 720, 4096, 4097, D - 1, D};
+    static const uint64_t rows[] = {1,   2,   3,   4,    5,    16,    17, 511,
+                                    512, 513, 720, 4096, 4097, D - 1, D};
     static const uint64_t blocks[] = {1, 719, 720, 721, 1440, N - 1, N};
     test_begin("sheets at the edges");
     expect_sheet(1, 1, 1, 1, 1, 0);
@@ -197,17 +218,21 @@ static void random_sheets(void)
     test_end();
 }
 
-/* Any numbers at all, and any length, inside the limits and outside: a refusal leaves the buffer. */
+/* Any numbers at all, and any length, inside the limits and outside: a refusal leaves the
+ * buffer. */
 static void any_calls(void)
 {
-    static const uint64_t most[] = {LEGBARO_MOST_BLOCK_BYTES, LEGBARO_MOST_ROWS,   LEGBARO_MOST_POSITIONS,
-                                    LEGBARO_MOST_TOKENS,      LEGBARO_MOST_BLOCKS, LEGBARO_MOST_ROWS};
+    static const uint64_t most[] = {LEGBARO_MOST_BLOCK_BYTES, LEGBARO_MOST_ROWS,
+                                    LEGBARO_MOST_POSITIONS,   LEGBARO_MOST_TOKENS,
+                                    LEGBARO_MOST_BLOCKS,      LEGBARO_MOST_ROWS};
     test_begin("sheets of any numbers");
     for (int i = 0; i < TRIED; i++) {
         uint64_t x[6];
         struct sheet sheet;
         for (int k = 0; k < 6; k++)
-            x[k] = chance_of(8) ? (chance_of(2) ? 0 : most[k] + 1) : chance_of(40) ? chance() : any_to(most[k]);
+            x[k] = chance_of(8)    ? (chance_of(2) ? 0 : most[k] + 1)
+                   : chance_of(40) ? chance()
+                                   : any_to(most[k]);
         struct call call = call_sheet(x[0], x[1], x[2], x[3], x[4], x[5]);
         if (chance_of(8))
             buffer_resize(&call.args[OUT], chance_below(2 * LEGBARO_SHEET_BYTES));

@@ -1,9 +1,10 @@
-/* See cases.h. A stack is painted, a call runs on it in a thread of its own, and where the paint is left the call has not been. */
+/* See cases.h. A stack is painted, a call runs on it in a thread of its own, and where the paint is
+ * left the call has not been. */
 #define _XOPEN_SOURCE 700
 #include "cases.h"
 
-#include "support/files.h"
 #include "support/expect.h"
+#include "support/files.h"
 #include "support/parity_calls.h"
 #include "support/pool_calls.h"
 
@@ -27,8 +28,9 @@ static size_t stack_of(struct call *call)
     pthread_t thread;
     void *room = NULL;
     size_t left = 0;
-    int made = posix_memalign(&room, ALIGNED, STACK) == 0 && memset(room, PAINT, STACK) && pthread_attr_init(&how) == 0 &&
-               pthread_attr_setstack(&how, room, STACK) == 0 && pthread_create(&thread, &how, run, call) == 0;
+    int made = posix_memalign(&room, ALIGNED, STACK) == 0 && memset(room, PAINT, STACK) &&
+               pthread_attr_init(&how) == 0 && pthread_attr_setstack(&how, room, STACK) == 0 &&
+               pthread_create(&thread, &how, run, call) == 0;
     expect(made && pthread_join(thread, NULL) == 0, "a thread with a stack of its own");
     while (left < STACK && ((uint8_t *)room)[left] == PAINT)
         left++;
@@ -36,11 +38,13 @@ static size_t stack_of(struct call *call)
     return STACK - left;
 }
 
-/* Expects the call to need less stack than the header says, beside what a bare thread needs; frees it. */
+/* Expects the call to need less stack than the header says, beside what a bare thread needs; frees
+ * it. */
 static void expect_small(struct call call)
 {
     size_t needs = stack_of(&call) - stack_of(NULL);
-    expect(needs < MOST, "%s: less than %d bytes of stack, not %zu", call_name(call.kind), MOST, needs);
+    expect(needs < MOST, "%s: less than %d bytes of stack, not %zu", call_name(call.kind), MOST,
+           needs);
     call_free(&call);
 }
 
@@ -90,7 +94,8 @@ static void stack_of_pools(void)
 static void stack_of_parity(void)
 {
     static const uint8_t lost[] = {0, 1, 2, 3, 4, 5, 6, 7, 40, 41, 42, 43, 44, 45, 46, 47};
-    struct call encoding = parity_encoding(LEGBARO_MOST_BLOCK_BYTES, LEGBARO_MOST_DATA_BLOCKS, LEGBARO_MOST_PARITY_BLOCKS);
+    struct call encoding = parity_encoding(LEGBARO_MOST_BLOCK_BYTES, LEGBARO_MOST_DATA_BLOCKS,
+                                           LEGBARO_MOST_PARITY_BLOCKS);
     expect_small(parity_rebuilding(&encoding, lost, sizeof lost));
     expect_small(encoding);
 }

@@ -1,10 +1,11 @@
-/* Totals: what calls count beside what other calls count, and the bounds that a planner may quote. That they are the reference implementation's
- * in every call, and that refusals leave them, is looked at wherever calls are compared. */
+/* Totals: what calls count beside what other calls count, and the bounds that a planner may quote.
+ * That they are the reference implementation's in every call, and that refusals leave them, is
+ * looked at wherever calls are compared. */
 #include "cases.h"
 
 #include "support/chance.h"
-#include "support/files.h"
 #include "support/expect.h"
+#include "support/files.h"
 
 #include <string.h>
 
@@ -12,7 +13,8 @@
 
 enum { B = 28, T = 3, MOST_D = 40 };
 
-/* How many numbers the eight rounds permute, 4^h: the least power of 4 that is d or more, and at least 4. */
+/* How many numbers the eight rounds permute, 4^h: the least power of 4 that is d or more, and at
+ * least 4. */
 static uint64_t numbers_of(uint64_t d)
 {
     uint64_t numbers = 4;
@@ -28,8 +30,9 @@ static int between(uint64_t least, uint64_t x, uint64_t most)
 
 static void expect_totals(struct totals found, struct totals expected, const char *what)
 {
-    expect(totals_same(found, expected), "%s: %llu turns and %llu hashes, not %llu and %llu", what, (unsigned long long)expected.turns,
-           (unsigned long long)expected.hashes, (unsigned long long)found.turns, (unsigned long long)found.hashes);
+    expect(totals_same(found, expected), "%s: %llu turns and %llu hashes, not %llu and %llu", what,
+           (unsigned long long)expected.turns, (unsigned long long)expected.hashes,
+           (unsigned long long)found.turns, (unsigned long long)found.hashes);
 }
 
 /* ---- A proof, and all proofs beside set-up ---- */
@@ -51,12 +54,13 @@ static struct range turns_of(const struct card *c)
     return (struct range){c->r, c->r + numbers_of(c->d) - c->d};
 }
 
-/* "the least and most hashes for a proof of any r different rows: r × q + the greater of 0 and r - (d - s), and r × q + the lesser of r and
- * s, where q = n div d and s = n mod d" */
+/* "the least and most hashes for a proof of any r different rows: r × q + the greater of 0 and r -
+ * (d - s), and r × q + the lesser of r and s, where q = n div d and s = n mod d" */
 static struct range hashes_of(const struct card *c)
 {
     uint64_t q = c->n / c->d, s = c->n % c->d;
-    return (struct range){c->r * q + (c->r > c->d - s ? c->r - (c->d - s) : 0), c->r * q + (c->r < s ? c->r : s)};
+    return (struct range){c->r * q + (c->r > c->d - s ? c->r - (c->d - s) : 0),
+                          c->r * q + (c->r < s ? c->r : s)};
 }
 
 /* What was found in proofs. */
@@ -75,10 +79,12 @@ static void all_proofs(struct file *file, struct found *found)
         struct call proof = file_call(file, PROVE);
         call_expect(&proof, LEGBARO_OK, "accepted");
         struct totals one = call_totals(&proof);
-        expect(between(turns.least, one.turns, turns.most), "from %llu to %llu turns, not %llu", (unsigned long long)turns.least,
-               (unsigned long long)turns.most, (unsigned long long)one.turns);
-        expect(between(hashes.least, one.hashes, hashes.most), "from %llu to %llu hashes, not %llu", (unsigned long long)hashes.least,
-               (unsigned long long)hashes.most, (unsigned long long)one.hashes);
+        expect(between(turns.least, one.turns, turns.most), "from %llu to %llu turns, not %llu",
+               (unsigned long long)turns.least, (unsigned long long)turns.most,
+               (unsigned long long)one.turns);
+        expect(between(hashes.least, one.hashes, hashes.most), "from %llu to %llu hashes, not %llu",
+               (unsigned long long)hashes.least, (unsigned long long)hashes.most,
+               (unsigned long long)one.hashes);
         reference_add_totals(&sum, one);
         widen(&found->turns, one.turns);
         widen(&found->hashes, one.hashes);
@@ -99,7 +105,8 @@ static struct found proofs_of(uint64_t version, uint64_t d, uint64_t r, uint64_t
 
 static void set_up_and_proofs(void)
 {
-    test_begin("the proofs of all tokens take the turns and hashes that set-up took, each within its bounds");
+    test_begin("the proofs of all tokens take the turns and hashes that set-up took, each within "
+               "its bounds");
     for (uint64_t d = 1; d <= MOST_D; d = tried_after(d, 5))
         for (uint64_t n = 1; n <= 3 * d; n += 1 + chance_below(d))
             proofs_of(any_version(), d, 1 + chance_below(d), T, n);
@@ -110,21 +117,24 @@ static void set_up_and_proofs(void)
     test_end();
 }
 
-/* Bounds that could be lower are none. With few rows some of so many tokens take the most turns, and with one position, or all but one, the
- * least and the most hashes. */
+/* Bounds that could be lower are none. With few rows some of so many tokens take the most turns,
+ * and with one position, or all but one, the least and the most hashes. */
 static void bounds_met(void)
 {
     enum { TOKENS = 150 };
-    static const uint64_t shapes[][3] = {{1, 1, 1}, {2, 1, 3}, {2, 2, 2}, {3, 1, 4}, {3, 2, 5}, {3, 3, 1}, {5, 1, 7}, {5, 4, 9}};
+    static const uint64_t shapes[][3] = {{1, 1, 1}, {2, 1, 3}, {2, 2, 2}, {3, 1, 4},
+                                         {3, 2, 5}, {3, 3, 1}, {5, 1, 7}, {5, 4, 9}};
     test_begin("some tokens of many take the most turns, the least hashes and the most");
     for (size_t i = 0; i < COUNT(shapes); i++) {
         struct card c = {.d = shapes[i][0], .r = shapes[i][1], .n = shapes[i][2]};
         struct range turns = turns_of(&c), hashes = hashes_of(&c);
         struct found found = proofs_of(any_version(), c.d, c.r, TOKENS, c.n);
-        expect(c.d > 3 || found.turns.most == turns.most, "%llu turns for d = %llu and r = %llu, not %llu", (unsigned long long)turns.most,
-               (unsigned long long)c.d, (unsigned long long)c.r, (unsigned long long)found.turns.most);
-        expect(found.hashes.least == hashes.least && found.hashes.most == hashes.most, "the least and the most hashes for d = %llu",
-               (unsigned long long)c.d);
+        expect(c.d > 3 || found.turns.most == turns.most,
+               "%llu turns for d = %llu and r = %llu, not %llu", (unsigned long long)turns.most,
+               (unsigned long long)c.d, (unsigned long long)c.r,
+               (unsigned long long)found.turns.most);
+        expect(found.hashes.least == hashes.least && found.hashes.most == hashes.most,
+               "the least and the most hashes for d = %llu", (unsigned long long)c.d);
     }
     test_end();
 }
@@ -198,8 +208,8 @@ static void every_row(struct file *file, enum way way)
     }
 }
 
-/* Changes of every row once, each way: the walks back are those of a set-up that draws all rows, the other way round and in as many turns;
- * and each token draws r of the rows. */
+/* Changes of every row once, each way: the walks back are those of a set-up that draws all rows,
+ * the other way round and in as many turns; and each token draws r of the rows. */
 static void rows_changed(uint64_t version, uint64_t d, uint64_t r)
 {
     struct call set_up = file_set_up_call(version, B, d, r, T, d + chance_below(d));
@@ -209,7 +219,8 @@ static void rows_changed(uint64_t version, uint64_t d, uint64_t r)
         struct file file = file_of(&set_up);
         file.totals = (struct totals){0, 0};
         every_row(&file, way);
-        expect_totals(file.totals, (struct totals){all.turns, hashes * r * T}, "every row changed once");
+        expect_totals(file.totals, (struct totals){all.turns, hashes * r * T},
+                      "every row changed once");
         file_end(&file);
     }
     call_free(&set_up);
@@ -217,7 +228,8 @@ static void rows_changed(uint64_t version, uint64_t d, uint64_t r)
 
 static void changes_and_set_up(void)
 {
-    test_begin("changes of every row take the turns of a set-up over all rows, and hashes for r rows of each token");
+    test_begin("changes of every row take the turns of a set-up over all rows, and hashes for r "
+               "rows of each token");
     for (uint64_t d = 1; d <= MOST_D; d = tried_after(d, 8)) {
         rows_changed(any_version(), d, 1 + chance_below(d));
         rows_changed(any_version(), d, d);
@@ -228,18 +240,20 @@ static void changes_and_set_up(void)
 
 /* ---- Single changes ---- */
 
-/* Expects the turns of a change of so many blocks to be one for each block and unused token at least, and 4^h - d + 1 at most; and its hashes
- * to be none at least, and at most some for each of these. */
-static void expect_change(const struct file *file, struct call call, uint64_t blocks, uint64_t hashes)
+/* Expects the turns of a change of so many blocks to be one for each block and unused token at
+ * least, and 4^h - d + 1 at most; and its hashes to be none at least, and at most some for each of
+ * these. */
+static void expect_change(const struct file *file, struct call call, uint64_t blocks,
+                          uint64_t hashes)
 {
     const struct card *c = &file->book.numbers;
     uint64_t walks = blocks * (c->t + 1 - c->next);
     call_expect(&call, LEGBARO_OK, "accepted");
     struct totals totals = call_totals(&call);
-    expect(between(walks, totals.turns, walks * (numbers_of(c->d) - c->d + 1)), "%s: the turns of %llu walks", call_name(call.kind),
-           (unsigned long long)walks);
-    expect(totals.hashes <= hashes * walks && totals.hashes % hashes == 0, "%s: the hashes of %llu walks", call_name(call.kind),
-           (unsigned long long)walks);
+    expect(between(walks, totals.turns, walks * (numbers_of(c->d) - c->d + 1)),
+           "%s: the turns of %llu walks", call_name(call.kind), (unsigned long long)walks);
+    expect(totals.hashes <= hashes * walks && totals.hashes % hashes == 0,
+           "%s: the hashes of %llu walks", call_name(call.kind), (unsigned long long)walks);
     if (c->d == numbers_of(c->d))
         expect(totals.turns == walks, "%s: one turn for each walk", call_name(call.kind));
     if (c->r == c->d)
@@ -247,7 +261,8 @@ static void expect_change(const struct file *file, struct call call, uint64_t bl
     call_free(&call);
 }
 
-/* Each kind, with each number of tokens spent. With none unused nothing is walked and nothing hashed. */
+/* Each kind, with each number of tokens spent. With none unused nothing is walked and nothing
+ * hashed. */
 static void every_change(uint64_t version, uint64_t d, uint64_t r)
 {
     enum { ITEMS_HERE = 5, LOADED = 9 };
@@ -267,13 +282,16 @@ static void every_change(uint64_t version, uint64_t d, uint64_t r)
 static void changes_in_bounds(void)
 {
     static const uint64_t powers[] = {4, 16, 64, 256, 1024};
-    test_begin("the turns and hashes of changes within their bounds, with every number of tokens spent");
+    test_begin(
+        "the turns and hashes of changes within their bounds, with every number of tokens spent");
     for (uint64_t d = 1; d <= MOST_D; d = tried_after(d, 5)) {
         every_change(any_version(), d, 1 + chance_below(d));
         every_change(any_version(), d, d);
     }
     for (size_t i = 0; i < COUNT(powers); i++)
-        every_change(any_version(), powers[i], 1 + chance_below(powers[i] < LEGBARO_MOST_POSITIONS ? powers[i] : LEGBARO_MOST_POSITIONS));
+        every_change(any_version(), powers[i],
+                     1 + chance_below(powers[i] < LEGBARO_MOST_POSITIONS ? powers[i]
+                                                                         : LEGBARO_MOST_POSITIONS));
     test_end();
 }
 

@@ -1,21 +1,39 @@
-/* Versions: numbers that are none, at set-up and in everything that is read; and the other versions where the file's is wanted. */
+/* Versions: numbers that are none, at set-up and in everything that is read; and the other versions
+ * where the file's is wanted. */
 #include "cases.h"
 
-#include "support/files.h"
 #include "support/expect.h"
+#include "support/files.h"
 
 #include <string.h>
 
 #define COUNT(array) (sizeof(array) / sizeof *(array))
 
 /* Where a record, a message or a reply has its version; and a reply its record. */
-enum { B = 28, D = 5, R = 5, T = 4, N = 7, VERSION_AT = 2, RECORD_AT = LEGBARO_REPLY_BYTES - LEGBARO_RECORD_BYTES };
+enum {
+    B = 28,
+    D = 5,
+    R = 5,
+    T = 4,
+    N = 7,
+    VERSION_AT = 2,
+    RECORD_AT = LEGBARO_REPLY_BYTES - LEGBARO_RECORD_BYTES
+};
 
 static const uint8_t no_versions[] = {0, 4, 5, 127, 128, 129, 130, 131, 255};
 
 static void versions_at_set_up(void)
 {
-    static const uint64_t no_numbers[] = {0,   4,   255, 256, 257, 258, 259, UINT64_C(1) << 32, (UINT64_C(1) << 32) + 1, UINT64_C(1) << 63,
+    static const uint64_t no_numbers[] = {0,
+                                          4,
+                                          255,
+                                          256,
+                                          257,
+                                          258,
+                                          259,
+                                          UINT64_C(1) << 32,
+                                          (UINT64_C(1) << 32) + 1,
+                                          UINT64_C(1) << 63,
                                           UINT64_MAX};
     test_begin("set-ups of versions that there are not");
     for (size_t i = 0; i < COUNT(no_numbers); i++) {
@@ -26,7 +44,8 @@ static void versions_at_set_up(void)
 }
 
 /* A call with a byte of one of its buffers altered. */
-static void with_byte(const struct file *file, enum kind kind, enum argument argument, size_t at, uint64_t value, uint64_t number)
+static void with_byte(const struct file *file, enum kind kind, enum argument argument, size_t at,
+                      uint64_t value, uint64_t number)
 {
     struct call call = file_call(file, kind);
     call.args[argument].bytes[at] = (uint8_t)value;
@@ -37,7 +56,8 @@ static void with_byte(const struct file *file, enum kind kind, enum argument arg
 static void version_of_records(const struct file *changing, enum kind change, uint64_t version)
 {
     for (uint64_t token = changing->book.numbers.next; token <= T; token++)
-        with_byte(changing, change, TABLE, (token - 1) * LEGBARO_RECORD_BYTES + VERSION_AT, version, LEGBARO_BAD_RECORD + 256 * token);
+        with_byte(changing, change, TABLE, (token - 1) * LEGBARO_RECORD_BYTES + VERSION_AT, version,
+                  LEGBARO_BAD_RECORD + 256 * token);
 }
 
 /* In a card and in a message: 2. */
@@ -104,11 +124,14 @@ static void with_its_mark(const struct file *file, uint64_t version, uint64_t nu
     call_finish(&update, number, "a mark of the other version");
 }
 
-/* A card of another version: its marks may have another length there, and no record opens by it. Its draw is accepted. */
-static void cards_of_another(const struct file *changing, const struct file *judging, uint64_t other)
+/* A card of another version: its marks may have another length there, and no record opens by it.
+ * Its draw is accepted. */
+static void cards_of_another(const struct file *changing, const struct file *judging,
+                             uint64_t other)
 {
     uint64_t bad = LEGBARO_BAD_RECORD + 256 * changing->book.numbers.next;
-    int same_marks = (other == LEGBARO_WITHOUT_MARKS) == (changing->book.numbers.version == LEGBARO_WITHOUT_MARKS);
+    int same_marks = (other == LEGBARO_WITHOUT_MARKS) ==
+                     (changing->book.numbers.version == LEGBARO_WITHOUT_MARKS);
     with_card(changing, UPDATE, other, same_marks ? bad : LEGBARO_WRONG_LENGTH);
     with_card(changing, DELETE, other, same_marks ? bad : LEGBARO_WRONG_LENGTH);
     with_card(changing, APPEND, other, bad);
@@ -119,14 +142,17 @@ static void cards_of_another(const struct file *changing, const struct file *jud
     with_card(changing, DROP, other, LEGBARO_NONE_PENDING);
     with_card(changing, DRAW, other, LEGBARO_OK);
     with_card(judging, JUDGE, other, LEGBARO_REJECTED);
-    with_byte(judging, PROVE, MESSAGE, VERSION_AT, other, same_marks ? LEGBARO_OK : LEGBARO_WRONG_LENGTH);
+    with_byte(judging, PROVE, MESSAGE, VERSION_AT, other,
+              same_marks ? LEGBARO_OK : LEGBARO_WRONG_LENGTH);
     with_its_mark(changing, other, bad);
 }
 
 static void versions_of_a_file(uint64_t version)
 {
-    test_begin("other versions than the file's, which is %llu, in all that is read", (unsigned long long)version);
-    struct file changing = file_set_up(version, B, D, R, T, N), judging = file_set_up(version, B, D, R, T, N);
+    test_begin("other versions than the file's, which is %llu, in all that is read",
+               (unsigned long long)version);
+    struct file changing = file_set_up(version, B, D, R, T, N),
+                judging = file_set_up(version, B, D, R, T, N);
     file_audit(&changing);
     file_do(&judging, DRAW);
     versions_in_changes(&changing);

@@ -7,23 +7,23 @@
 /* ---- Set-up ---- */
 
 /* The wrong size of a card for its version is "at set-up the later 1". */
-uint64_t reference_set_up(const uint8_t *master, size_t master_length,
-                       const uint8_t *id, size_t id_length,
-                       uint64_t version,
-                       uint64_t B, uint64_t d, uint64_t r, uint64_t t, uint64_t n,
-                       const uint8_t *blocks, size_t blocks_length,
-                       uint8_t *card, size_t card_length,
-                       uint8_t *table, size_t table_length,
-                       uint8_t *totals, size_t totals_length)
+uint64_t reference_set_up(const uint8_t *master, size_t master_length, const uint8_t *id,
+                          size_t id_length, uint64_t version, uint64_t B, uint64_t d, uint64_t r,
+                          uint64_t t, uint64_t n, const uint8_t *blocks, size_t blocks_length,
+                          uint8_t *card, size_t card_length, uint8_t *table, size_t table_length,
+                          uint8_t *totals, size_t totals_length)
 {
-    if (master_length != LEGBARO_MASTER_BYTES || id_length != LEGBARO_ID_BYTES || !card_sized(card_length) ||
-        totals_length != LEGBARO_TOTALS_BYTES)
+    if (master_length != LEGBARO_MASTER_BYTES || id_length != LEGBARO_ID_BYTES ||
+        !card_sized(card_length) || totals_length != LEGBARO_TOTALS_BYTES)
         return LEGBARO_WRONG_LENGTH;
-    if (!version_fits(version) || !shape_fits(B, d, r) || !within(1, t, LEGBARO_MOST_TOKENS) || !within(1, n, LEGBARO_MOST_BLOCKS))
+    if (!version_fits(version) || !shape_fits(B, d, r) || !within(1, t, LEGBARO_MOST_TOKENS) ||
+        !within(1, n, LEGBARO_MOST_BLOCKS))
         return LEGBARO_OUT_OF_LIMITS;
-    if (card_length != reference_card_bytes(version) || blocks_length != n * B || table_length != t * LEGBARO_RECORD_BYTES)
+    if (card_length != reference_card_bytes(version) || blocks_length != n * B ||
+        table_length != t * LEGBARO_RECORD_BYTES)
         return LEGBARO_WRONG_LENGTH;
-    struct card c = {.version = version, .B = B, .d = d, .r = r, .t = t, .n = n, .ctr = 0, .next = 1, .open = 0};
+    struct card c = {
+        .version = version, .B = B, .d = d, .r = r, .t = t, .n = n, .ctr = 0, .next = 1, .open = 0};
     uint8_t *marks = calloc(n, 1); /* all live */
     must(marks != NULL);
     memcpy(c.id, id, sizeof c.id);
@@ -35,17 +35,19 @@ uint64_t reference_set_up(const uint8_t *master, size_t master_length,
 
 /* ---- Draw ---- */
 
-/* "It refuses, before everything else", and after 22, "a date or minute outside these (16), and after 3 a draw outside every window (17)";
- * "straight after 8, an ask, one-step change or draw while something is pending (18)" */
-uint64_t reference_draw_fault(uint64_t role, size_t master_length, const uint8_t *card, size_t card_length, size_t message_length,
-                           const uint8_t *plan, size_t plan_length, const struct when *when)
+/* "It refuses, before everything else", and after 22, "a date or minute outside these (16), and
+ * after 3 a draw outside every window (17)"; "straight after 8, an ask, one-step change or draw
+ * while something is pending (18)" */
+uint64_t reference_draw_fault(uint64_t role, size_t master_length, const uint8_t *card,
+                              size_t card_length, size_t message_length, const uint8_t *plan,
+                              size_t plan_length, const struct when *when)
 {
     if (!may_audit(role))
         return LEGBARO_NO_RIGHT;
     if (!when_fits(when))
         return LEGBARO_BAD_TIME;
-    if (master_length != LEGBARO_MASTER_BYTES || !card_sized(card_length) || message_length != LEGBARO_MESSAGE_BYTES ||
-        plan_length != PLAN_BYTES)
+    if (master_length != LEGBARO_MASTER_BYTES || !card_sized(card_length) ||
+        message_length != LEGBARO_MESSAGE_BYTES || plan_length != PLAN_BYTES)
         return LEGBARO_WRONG_LENGTH;
     if (card_fault(card, card_length))
         return card_fault(card, card_length);
@@ -61,15 +63,14 @@ uint64_t reference_draw_fault(uint64_t role, size_t master_length, const uint8_t
     return c.next == c.t + 1 ? LEGBARO_NO_TOKEN_LEFT : LEGBARO_OK;
 }
 
-uint64_t reference_draw(uint64_t role,
-                     const uint8_t *master, size_t master_length,
-                     uint8_t *card, size_t card_length,
-                     uint8_t *message, size_t message_length,
-                     const uint8_t *plan, size_t plan_length,
-                     uint64_t year, uint64_t month, uint64_t day, uint64_t minute)
+uint64_t reference_draw(uint64_t role, const uint8_t *master, size_t master_length, uint8_t *card,
+                        size_t card_length, uint8_t *message, size_t message_length,
+                        const uint8_t *plan, size_t plan_length, uint64_t year, uint64_t month,
+                        uint64_t day, uint64_t minute)
 {
     struct when when = {year, month, day, minute};
-    uint64_t fault = reference_draw_fault(role, master_length, card, card_length, message_length, plan, plan_length, &when);
+    uint64_t fault = reference_draw_fault(role, master_length, card, card_length, message_length,
+                                          plan, plan_length, &when);
     if (fault)
         return fault;
     struct card c = reference_read_card(card);
@@ -87,7 +88,8 @@ uint64_t reference_draw(uint64_t role,
 
 /* ---- Judge ---- */
 
-uint64_t reference_judge_fault(uint64_t role, size_t master_length, const uint8_t *card, size_t card_length)
+uint64_t reference_judge_fault(uint64_t role, size_t master_length, const uint8_t *card,
+                               size_t card_length)
 {
     if (!may_audit(role))
         return LEGBARO_NO_RIGHT;
@@ -98,7 +100,8 @@ uint64_t reference_judge_fault(uint64_t role, size_t master_length, const uint8_
     return reference_read_card(card).open == 0 ? LEGBARO_NONE_OPEN : LEGBARO_OK;
 }
 
-uint64_t reference_verdict(const uint8_t *master, const struct card *c, const uint8_t *reply, size_t reply_length)
+uint64_t reference_verdict(const uint8_t *master, const struct card *c, const uint8_t *reply,
+                           size_t reply_length)
 {
     uint8_t id[LEGBARO_ID_BYTES], sent[TOKEN_BYTES], token[TOKEN_BYTES];
     if (reply_length != LEGBARO_REPLY_BYTES || !head_fits(reply, LEGBARO_REPLY_BYTES, c->version))
@@ -114,10 +117,8 @@ uint64_t reference_verdict(const uint8_t *master, const struct card *c, const ui
     return memcmp(token, sent, sizeof token) == 0 ? LEGBARO_OK : LEGBARO_REJECTED;
 }
 
-uint64_t reference_judge(uint64_t role,
-                      const uint8_t *master, size_t master_length,
-                      uint8_t *card, size_t card_length,
-                      const uint8_t *reply, size_t reply_length)
+uint64_t reference_judge(uint64_t role, const uint8_t *master, size_t master_length, uint8_t *card,
+                         size_t card_length, const uint8_t *reply, size_t reply_length)
 {
     uint64_t fault = reference_judge_fault(role, master_length, card, card_length);
     if (fault)
@@ -131,15 +132,18 @@ uint64_t reference_judge(uint64_t role,
 
 /* ---- Cause ---- */
 
-/* "the place, from 1, of the first that holds: wrong size, wrong header (length or version, of reply or record), another file or token
- * (either token number), another counter, bad tag, other digest" */
-static uint64_t cause_of(const uint8_t *master, const struct card *c, const uint8_t *reply, size_t reply_length)
+/* "the place, from 1, of the first that holds: wrong size, wrong header (length or version, of
+ * reply or record), another file or token (either token number), another counter, bad tag, other
+ * digest" */
+static uint64_t cause_of(const uint8_t *master, const struct card *c, const uint8_t *reply,
+                         size_t reply_length)
 {
     uint8_t id[LEGBARO_ID_BYTES], sent[TOKEN_BYTES], token[TOKEN_BYTES];
     if (reply_length != LEGBARO_REPLY_BYTES)
         return 1;
     const uint8_t *record = reply + LEGBARO_REPLY_BYTES - LEGBARO_RECORD_BYTES;
-    if (!head_fits(reply, LEGBARO_REPLY_BYTES, c->version) || !head_fits(record, LEGBARO_RECORD_BYTES, c->version))
+    if (!head_fits(reply, LEGBARO_REPLY_BYTES, c->version) ||
+        !head_fits(record, LEGBARO_RECORD_BYTES, c->version))
         return 2;
     const uint8_t *at = after_head(reply), *in_record = after_head(record);
     take_bytes(&at, id, sizeof id);
@@ -156,10 +160,9 @@ static uint64_t cause_of(const uint8_t *master, const struct card *c, const uint
 }
 
 /* "It shares judge's checks, 9 included" */
-uint64_t reference_cause(uint64_t role,
-                      const uint8_t *master, size_t master_length,
-                      const uint8_t *card, size_t card_length,
-                      const uint8_t *reply, size_t reply_length)
+uint64_t reference_cause(uint64_t role, const uint8_t *master, size_t master_length,
+                         const uint8_t *card, size_t card_length, const uint8_t *reply,
+                         size_t reply_length)
 {
     uint64_t fault = reference_judge_fault(role, master_length, card, card_length);
     if (fault)
@@ -170,21 +173,21 @@ uint64_t reference_cause(uint64_t role,
 
 /* ---- The host's proof ---- */
 
-uint64_t reference_prove(const uint8_t *message, size_t message_length,
-                      const uint8_t *blocks, size_t blocks_length,
-                      const uint8_t *marks, size_t marks_length,
-                      const uint8_t *table, size_t table_length,
-                      uint8_t *reply, size_t reply_length,
-                      uint8_t *totals, size_t totals_length)
+uint64_t reference_prove(const uint8_t *message, size_t message_length, const uint8_t *blocks,
+                         size_t blocks_length, const uint8_t *marks, size_t marks_length,
+                         const uint8_t *table, size_t table_length, uint8_t *reply,
+                         size_t reply_length, uint8_t *totals, size_t totals_length)
 {
-    if (message_length != LEGBARO_MESSAGE_BYTES || reply_length != LEGBARO_REPLY_BYTES || totals_length != LEGBARO_TOTALS_BYTES)
+    if (message_length != LEGBARO_MESSAGE_BYTES || reply_length != LEGBARO_REPLY_BYTES ||
+        totals_length != LEGBARO_TOTALS_BYTES)
         return LEGBARO_WRONG_LENGTH;
     struct message m = read_message(message);
     if (!version_fits(m.version) || !head_fits(message, LEGBARO_MESSAGE_BYTES, m.version))
         return LEGBARO_WRONG_HEADER;
     if (!message_fits(&m))
         return LEGBARO_OUT_OF_LIMITS;
-    if (blocks_length != m.n * m.B || marks_length != (m.version == 1 ? 0 : m.n) || table_length < m.i * LEGBARO_RECORD_BYTES)
+    if (blocks_length != m.n * m.B || marks_length != (m.version == 1 ? 0 : m.n) ||
+        table_length < m.i * LEGBARO_RECORD_BYTES)
         return LEGBARO_WRONG_LENGTH;
     if (!marks_fit(marks, marks_length))
         return LEGBARO_BAD_MARK;

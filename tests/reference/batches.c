@@ -13,8 +13,8 @@ int marks_fit(const uint8_t *marks, size_t count)
     return 1;
 }
 
-/* "each a kind byte, block number 4, old and new block"; "the old mark, a byte, in a batch after the old block; version 1 lends marks
- * empty" */
+/* "each a kind byte, block number 4, old and new block"; "the old mark, a byte, in a batch after
+ * the old block; version 1 lends marks empty" */
 size_t reference_item_bytes(const struct card *c)
 {
     return 1 + 4 + c->B + (c->version == 1 ? 0 : 1) + c->B;

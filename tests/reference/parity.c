@@ -58,8 +58,8 @@ static int lost_fits(uint64_t blocks, const uint8_t *lost, size_t count)
 }
 
 /* "Parity p (from 0) of k data blocks weighs data q by the inverse of (k + p) xor q" */
-uint64_t reference_parity_encode(uint64_t B, uint64_t k, uint64_t p, const uint8_t *data, size_t data_length, uint8_t *parity,
-                              size_t parity_length)
+uint64_t reference_parity_encode(uint64_t B, uint64_t k, uint64_t p, const uint8_t *data,
+                                 size_t data_length, uint8_t *parity, size_t parity_length)
 {
     if (!within(1, B, LEGBARO_MOST_BLOCK_BYTES))
         return LEGBARO_OUT_OF_LIMITS;
@@ -74,15 +74,18 @@ uint64_t reference_parity_encode(uint64_t B, uint64_t k, uint64_t p, const uint8
     return LEGBARO_OK;
 }
 
-/* As many equations as unknowns: a matrix of weights, and beside each row a block, which is the sum of the unknown blocks so weighed. */
+/* As many equations as unknowns: a matrix of weights, and beside each row a block, which is the sum
+ * of the unknown blocks so weighed. */
 struct equations {
     unsigned count;
     unsigned weights[P][P];
     uint8_t *sums[P];
 };
 
-/* The equations of the lost data, from the parity blocks `sources`: what these hold, without the kept data. */
-static void set_up(struct equations *e, uint64_t B, uint64_t k, const uint8_t *blocks, const unsigned *gone, const unsigned *sources)
+/* The equations of the lost data, from the parity blocks `sources`: what these hold, without the
+ * kept data. */
+static void set_up(struct equations *e, uint64_t B, uint64_t k, const uint8_t *blocks,
+                   const unsigned *gone, const unsigned *sources)
 {
     for (unsigned i = 0; i < e->count; i++) {
         unsigned unknown = 0;
@@ -119,8 +122,8 @@ static void solve(struct equations *e, uint64_t B)
     }
 }
 
-static uint64_t rebuild_fault(uint64_t B, uint64_t k, uint64_t p, size_t blocks_length, const uint8_t *lost, size_t count,
-                              size_t data_length)
+static uint64_t rebuild_fault(uint64_t B, uint64_t k, uint64_t p, size_t blocks_length,
+                              const uint8_t *lost, size_t count, size_t data_length)
 {
     if (!within(1, B, LEGBARO_MOST_BLOCK_BYTES))
         return LEGBARO_OUT_OF_LIMITS;
@@ -132,8 +135,9 @@ static uint64_t rebuild_fault(uint64_t B, uint64_t k, uint64_t p, size_t blocks_
 }
 
 /* "writes the data, solved from the lowest surviving parity blocks, as many as data are lost" */
-uint64_t reference_parity_rebuild(uint64_t B, uint64_t k, uint64_t p, const uint8_t *blocks, size_t blocks_length, const uint8_t *lost,
-                               size_t lost_length, uint8_t *data, size_t data_length)
+uint64_t reference_parity_rebuild(uint64_t B, uint64_t k, uint64_t p, const uint8_t *blocks,
+                                  size_t blocks_length, const uint8_t *lost, size_t lost_length,
+                                  uint8_t *data, size_t data_length)
 {
     struct equations e = {.count = 0};
     unsigned gone[P], sources[P], found = 0;

@@ -26,17 +26,19 @@ unsigned reference_half_width(uint64_t d)
     return b <= 2 ? 1 : (b + 1) / 2;
 }
 
-/* "F is the low h bits of the first four bytes, little-endian, of the ChaCha20 block with that key, block counter R, nonce eleven zero
- * bytes and then q" */
+/* "F is the low h bits of the first four bytes, little-endian, of the ChaCha20 block with that key,
+ * block counter R, nonce eleven zero bytes and then q" */
 static uint64_t round_word(uint64_t R, uint8_t q, unsigned h)
 {
-    uint8_t counter_and_nonce[4 + NONCE_BYTES] = {(uint8_t)R, (uint8_t)(R >> 8), (uint8_t)(R >> 16), (uint8_t)(R >> 24)};
+    uint8_t counter_and_nonce[4 + NONCE_BYTES] = {(uint8_t)R, (uint8_t)(R >> 8), (uint8_t)(R >> 16),
+                                                  (uint8_t)(R >> 24)};
     uint8_t zeros[4] = {0}, first[4];
     int length;
     counter_and_nonce[sizeof counter_and_nonce - 1] = q;
     must(EVP_EncryptInit_ex(permuting, NULL, NULL, NULL, counter_and_nonce));
     must(EVP_EncryptUpdate(permuting, first, &length, zeros, sizeof zeros));
-    uint64_t word = first[0] | (uint64_t)first[1] << 8 | (uint64_t)first[2] << 16 | (uint64_t)first[3] << 24;
+    uint64_t word =
+        first[0] | (uint64_t)first[1] << 8 | (uint64_t)first[2] << 16 | (uint64_t)first[3] << 24;
     return word & ((UINT64_C(1) << h) - 1);
 }
 
@@ -68,7 +70,8 @@ void use_draw_key(const uint8_t *key)
     must(EVP_EncryptInit_ex(permuting, NULL, NULL, key, NULL));
 }
 
-/* "Apply all eight rounds again until the number is below d"; "how many times the eight rounds were applied, both ways" */
+/* "Apply all eight rounds again until the number is below d"; "how many times the eight rounds were
+ * applied, both ways" */
 struct walk permuted(uint64_t d, uint64_t x)
 {
     unsigned h = reference_half_width(d);

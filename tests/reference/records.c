@@ -1,4 +1,5 @@
-/* The reference implementation's records: numbers and bytes, card and message, and their limits. See parts.h. */
+/* The reference implementation's records: numbers and bytes, card and message, and their limits.
+ * See parts.h. */
 #include "parts.h"
 
 #include <string.h>
@@ -34,7 +35,8 @@ void take_bytes(const uint8_t **at, uint8_t *bytes, size_t length)
     *at += length;
 }
 
-/* "Each begins with a two-byte length of what follows, then version 1"; "wherever 01 wants version 1 it now wants the card's" */
+/* "Each begins with a two-byte length of what follows, then version 1"; "wherever 01 wants version
+ * 1 it now wants the card's" */
 uint8_t *put_head(uint8_t *at, size_t length, uint64_t version)
 {
     return put(put(at, LENGTH_FIELD, length - LENGTH_FIELD), 1, version);
@@ -63,8 +65,8 @@ size_t reference_card_bytes(uint64_t version)
     return version == 3 ? 63 : 43;
 }
 
-/* "adds the last counter issued 8, and the pending counter 8 and pending block count 4"; "Versions 1 and 2 read as nothing pending and ctr
- * last issued" */
+/* "adds the last counter issued 8, and the pending counter 8 and pending block count 4"; "Versions
+ * 1 and 2 read as nothing pending and ctr last issued" */
 struct card reference_read_card(const uint8_t *bytes)
 {
     struct card c = {.version = version_in(bytes)};
@@ -154,33 +156,37 @@ int version_fits(uint64_t version)
 
 int shape_fits(uint64_t B, uint64_t d, uint64_t r)
 {
-    return within(1, B, LEGBARO_MOST_BLOCK_BYTES) && within(1, d, LEGBARO_MOST_ROWS) && within(1, r, LEGBARO_MOST_POSITIONS) &&
-           r <= d;
+    return within(1, B, LEGBARO_MOST_BLOCK_BYTES) && within(1, d, LEGBARO_MOST_ROWS) &&
+           within(1, r, LEGBARO_MOST_POSITIONS) && r <= d;
 }
 
-/* "the pending counter 8 and pending block count 4, both 0 for none"; "a pending counter equals it and exceeds ctr, with a count from n to
- * n's most and open 0" */
+/* "the pending counter 8 and pending block count 4, both 0 for none"; "a pending counter equals it
+ * and exceeds ctr, with a count from n to n's most and open 0" */
 static int pending_fits(const struct card *c)
 {
     if (c->pending == 0 && c->pending_n == 0)
         return 1;
-    return c->pending == c->last_issued && c->pending > c->ctr && within(c->n, c->pending_n, LEGBARO_MOST_BLOCKS) && c->open == 0;
+    return c->pending == c->last_issued && c->pending > c->ctr &&
+           within(c->n, c->pending_n, LEGBARO_MOST_BLOCKS) && c->open == 0;
 }
 
 /* "Last issued is from ctr to ctr's most" */
 static int card_fits(const struct card *c)
 {
-    return shape_fits(c->B, c->d, c->r) && within(1, c->t, LEGBARO_MOST_TOKENS) && within(1, c->n, LEGBARO_MOST_BLOCKS) &&
-           c->ctr <= LEGBARO_MOST_COUNTER && within(1, c->next, c->t + 1) && (c->open == 0 || c->open == c->next - 1) &&
+    return shape_fits(c->B, c->d, c->r) && within(1, c->t, LEGBARO_MOST_TOKENS) &&
+           within(1, c->n, LEGBARO_MOST_BLOCKS) && c->ctr <= LEGBARO_MOST_COUNTER &&
+           within(1, c->next, c->t + 1) && (c->open == 0 || c->open == c->next - 1) &&
            within(c->ctr, c->last_issued, LEGBARO_MOST_COUNTER) && pending_fits(c);
 }
 
 int message_fits(const struct message *m)
 {
-    return shape_fits(m->B, m->d, m->r) && within(1, m->i, LEGBARO_MOST_TOKENS) && within(1, m->n, LEGBARO_MOST_BLOCKS);
+    return shape_fits(m->B, m->d, m->r) && within(1, m->i, LEGBARO_MOST_TOKENS) &&
+           within(1, m->n, LEGBARO_MOST_BLOCKS);
 }
 
-/* "Where a card comes to have several sizes, each passes the first length check; the wrong one for its version is then 2" */
+/* "Where a card comes to have several sizes, each passes the first length check; the wrong one for
+ * its version is then 2" */
 int card_sized(size_t length)
 {
     return length == reference_card_bytes(1) || length == reference_card_bytes(3);
@@ -189,7 +195,8 @@ int card_sized(size_t length)
 uint64_t card_fault(const uint8_t *card, size_t length)
 {
     uint64_t version = version_in(card);
-    if (!version_fits(version) || length != reference_card_bytes(version) || !head_fits(card, length, version))
+    if (!version_fits(version) || length != reference_card_bytes(version) ||
+        !head_fits(card, length, version))
         return LEGBARO_WRONG_HEADER;
     struct card c = reference_read_card(card);
     return card_fits(&c) ? LEGBARO_OK : LEGBARO_OUT_OF_LIMITS;

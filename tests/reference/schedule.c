@@ -18,7 +18,8 @@ static uint64_t days_in(uint64_t year, uint64_t month)
     return month == 2 && is_leap(year) ? 29 : days[month - 1];
 }
 
-/* "a Gregorian date (year, month, day) from 1 January 2000 to 31 December 2099 and a minute from 0 to 1,439" */
+/* "a Gregorian date (year, month, day) from 1 January 2000 to 31 December 2099 and a minute from 0
+ * to 1,439" */
 int when_fits(const struct when *when)
 {
     return within(FIRST_YEAR, when->year, LAST_YEAR) && within(1, when->month, MONTHS) &&
@@ -57,8 +58,8 @@ int schedule_fits(const uint8_t *schedule)
     return 1;
 }
 
-/* Marks the minutes of the week, from Monday's first, that the windows allow: "start included, end excluded, empty when equal, running past
- * midnight when the end is smaller" */
+/* Marks the minutes of the week, from Monday's first, that the windows allow: "start included, end
+ * excluded, empty when equal, running past midnight when the end is smaller" */
 static void open_windows(const uint8_t *schedule, uint8_t *allowed)
 {
     memset(allowed, 0, WEEK);
@@ -72,7 +73,8 @@ static void open_windows(const uint8_t *schedule, uint8_t *allowed)
     }
 }
 
-/* "the wait in minutes for the first allowed one among the 10,080 that start with the given one, 10,080 for none" */
+/* "the wait in minutes for the first allowed one among the 10,080 that start with the given one,
+ * 10,080 for none" */
 uint64_t wait_for(const uint8_t *schedule, const struct when *when)
 {
     uint8_t allowed[WEEK];
@@ -84,8 +86,8 @@ uint64_t wait_for(const uint8_t *schedule, const struct when *when)
 }
 
 /* "before everything else, a date or minute outside these (16)" */
-uint64_t reference_wait(const uint8_t *plan, size_t plan_length,
-                     uint64_t year, uint64_t month, uint64_t day, uint64_t minute)
+uint64_t reference_wait(const uint8_t *plan, size_t plan_length, uint64_t year, uint64_t month,
+                        uint64_t day, uint64_t minute)
 {
     struct when when = {year, month, day, minute};
     if (!when_fits(&when))

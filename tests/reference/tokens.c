@@ -101,7 +101,8 @@ void hash_key_of(uint64_t i, uint8_t *c)
 
 /* ---- Tokens ---- */
 
-void mix_block(uint8_t *token, const uint8_t *c, uint64_t index, const uint8_t *mark, const uint8_t *block, size_t B)
+void mix_block(uint8_t *token, const uint8_t *c, uint64_t index, const uint8_t *mark,
+               const uint8_t *block, size_t B)
 {
     SHA256_CTX running;
     uint8_t index_bytes[4], hash[HASH_BYTES];
@@ -123,10 +124,10 @@ const uint8_t *mark_in(uint64_t version, const uint8_t *marks, uint64_t e)
     return version == 1 ? NULL : marks + e;
 }
 
-/* "the xor, over every j and every block of the row drawn"; "rows beyond n are empty and add nothing"; "set-up and proof walk every position
- * drawn" */
-struct totals digest(const uint8_t *k, const uint8_t *c, const struct shape *shape, const uint8_t *blocks, const uint8_t *marks,
-                     uint8_t *token)
+/* "the xor, over every j and every block of the row drawn"; "rows beyond n are empty and add
+ * nothing"; "set-up and proof walk every position drawn" */
+struct totals digest(const uint8_t *k, const uint8_t *c, const struct shape *shape,
+                     const uint8_t *blocks, const uint8_t *marks, uint8_t *token)
 {
     uint64_t d = shape->d, B = shape->B;
     struct totals totals = {0, 0};
@@ -138,7 +139,8 @@ struct totals digest(const uint8_t *k, const uint8_t *c, const struct shape *sha
         totals.turns += walk.turns;
         for (uint64_t column = 0; column * d + row <= shape->n; column++) {
             uint64_t m = column * d + row;
-            mix_block(token, c, column * d + j, mark_in(shape->version, marks, m - 1), blocks + (m - 1) * B, B);
+            mix_block(token, c, column * d + j, mark_in(shape->version, marks, m - 1),
+                      blocks + (m - 1) * B, B);
             totals.hashes++;
         }
     }
@@ -177,7 +179,8 @@ int open_record(const uint8_t *record, const struct card *c, uint64_t i, uint8_t
     uint8_t nonce[NONCE_BYTES], tag[TAG_BYTES];
     const uint8_t *at = after_head(record);
     int length;
-    if (!head_fits(record, LEGBARO_RECORD_BYTES, c->version) || take(&at, 8) != c->ctr || take(&at, 4) != i)
+    if (!head_fits(record, LEGBARO_RECORD_BYTES, c->version) || take(&at, 8) != c->ctr ||
+        take(&at, 4) != i)
         return 0;
     write_nonce(nonce, c->ctr, i);
     memcpy(tag, at + TOKEN_BYTES, TAG_BYTES);
@@ -188,14 +191,16 @@ int open_record(const uint8_t *record, const struct card *c, uint64_t i, uint8_t
     return EVP_DecryptFinal_ex(opening, token + length, &length) > 0;
 }
 
-int reference_token(const uint8_t *master, const struct card *c, const uint8_t *table, uint64_t i, uint8_t *token)
+int reference_token(const uint8_t *master, const struct card *c, const uint8_t *table, uint64_t i,
+                    uint8_t *token)
 {
     use_keys(master, c->id);
     return open_record(table + (i - 1) * LEGBARO_RECORD_BYTES, c, i, token);
 }
 
-struct totals reference_fresh_records(const uint8_t *master, const struct card *c, const uint8_t *blocks, const uint8_t *marks,
-                                   uint64_t first, uint64_t last, uint8_t *table)
+struct totals reference_fresh_records(const uint8_t *master, const struct card *c,
+                                      const uint8_t *blocks, const uint8_t *marks, uint64_t first,
+                                      uint64_t last, uint8_t *table)
 {
     struct totals totals = {0, 0};
     struct shape shape = {c->version, c->d, c->r, c->B, c->n};

@@ -21,11 +21,17 @@ static size_t table_bytes(const struct book *book)
     return book->numbers.t * LEGBARO_RECORD_BYTES;
 }
 
-/* "An accepted set-up starts it with the blocks taken, ctr 0, next 1, open 0 and no spent record." */
+/* "An accepted set-up starts it with the blocks taken, ctr 0, next 1, open 0 and no spent
+ * record." */
 struct book book_start(const struct call *set_up)
 {
-    struct book book = {
-        .numbers = {.version = set_up->version, .B = set_up->B, .d = set_up->d, .r = set_up->r, .t = set_up->t, .n = set_up->n, .next = 1}};
+    struct book book = {.numbers = {.version = set_up->version,
+                                    .B = set_up->B,
+                                    .d = set_up->d,
+                                    .r = set_up->r,
+                                    .t = set_up->t,
+                                    .n = set_up->n,
+                                    .next = 1}};
     memcpy(book.key, set_up->args[MASTER].bytes, sizeof book.key);
     memcpy(book.numbers.id, set_up->args[ID].bytes, sizeof book.numbers.id);
     book.blocks = resized(NULL, set_up->args[BLOCKS].length);
@@ -70,10 +76,12 @@ void book_card(const struct book *book, uint8_t *card)
 void book_table(const struct book *book, uint8_t *table)
 {
     memcpy(table, book->spent, (book->numbers.next - 1) * LEGBARO_RECORD_BYTES);
-    reference_fresh_records(book->key, &book->numbers, book->blocks, book->marks, book->numbers.next, book->numbers.t, table);
+    reference_fresh_records(book->key, &book->numbers, book->blocks, book->marks,
+                            book->numbers.next, book->numbers.t, table);
 }
 
-/* The book as a commit would leave it, on the same room: "makes its ask's table, and its counter and count the standing ones" */
+/* The book as a commit would leave it, on the same room: "makes its ask's table, and its counter
+ * and count the standing ones" */
 static struct book committed(const struct book *book)
 {
     struct book after = *book;
@@ -96,24 +104,29 @@ void book_asked_table(const struct book *book, uint8_t *table)
 static struct change change_of(const struct call *call)
 {
     enum kind kind = unasked(call->kind);
-    static const enum change_kind kinds[] = {
-        [UPDATE] = CHANGE_UPDATE, [DELETE] = CHANGE_DELETE, [APPEND] = CHANGE_APPEND, [LOAD] = CHANGE_LOAD, [BATCH] = CHANGE_BATCH};
-    const struct buffer *old = &call->args[OLD], *mark = &call->args[MARKS], *items = &call->args[ITEMS];
+    static const enum change_kind kinds[] = {[UPDATE] = CHANGE_UPDATE,
+                                             [DELETE] = CHANGE_DELETE,
+                                             [APPEND] = CHANGE_APPEND,
+                                             [LOAD] = CHANGE_LOAD,
+                                             [BATCH] = CHANGE_BATCH};
+    const struct buffer *old = &call->args[OLD], *mark = &call->args[MARKS],
+                        *items = &call->args[ITEMS];
     const struct buffer *added = &call->args[kind == LOAD ? BLOCKS : NEW];
     struct change change = {.kind = kinds[kind],
-                        .m = call->m,
-                        .old_block = old->bytes,
-                        .old_length = old->length,
-                        .mark = mark->bytes,
-                        .mark_length = mark->length,
-                        .new_blocks = added->bytes,
-                        .new_length = added->length,
-                        .items = items->bytes,
-                        .items_length = items->length};
+                            .m = call->m,
+                            .old_block = old->bytes,
+                            .old_length = old->length,
+                            .mark = mark->bytes,
+                            .mark_length = mark->length,
+                            .new_blocks = added->bytes,
+                            .new_length = added->length,
+                            .items = items->bytes,
+                            .items_length = items->length};
     return change;
 }
 
-/* The cards of a pooled judging: "the other cards in their places, as lent", and the book's own in its place, where nothing is read. */
+/* The cards of a pooled judging: "the other cards in their places, as lent", and the book's own in
+ * its place, where nothing is read. */
 static struct buffer pooled_cards(const struct book *book, const struct call *call)
 {
     struct buffer cards = buffer_copy(&call->args[CARDS]);
@@ -124,7 +137,8 @@ static struct buffer pooled_cards(const struct book *book, const struct call *ca
 static uint64_t pool_refusal(const struct book *book, const struct call *call)
 {
     struct buffer cards = pooled_cards(book, call);
-    uint64_t fault = reference_pool_fault(call->role, call->args[MASTER].length, cards.bytes, cards.length);
+    uint64_t fault =
+        reference_pool_fault(call->role, call->args[MASTER].length, cards.bytes, cards.length);
     buffer_free(&cards);
     return fault;
 }
@@ -132,13 +146,14 @@ static uint64_t pool_refusal(const struct book *book, const struct call *call)
 static uint64_t pool_verdict(const struct book *book, const struct call *call)
 {
     struct buffer cards = pooled_cards(book, call);
-    uint64_t verdict =
-        reference_pool_verdict(book->key, cards.bytes, cards.length, call->args[REPLY].bytes, call->args[REPLY].length);
+    uint64_t verdict = reference_pool_verdict(book->key, cards.bytes, cards.length,
+                                              call->args[REPLY].bytes, call->args[REPLY].length);
     buffer_free(&cards);
     return verdict;
 }
 
-/* "Turned away", read with the book's card and table and the call's other arguments; "7 never comes up". */
+/* "Turned away", read with the book's card and table and the call's other arguments; "7 never comes
+ * up". */
 static uint64_t refusal(const struct book *book, const struct call *call)
 {
     struct change change;
@@ -149,8 +164,9 @@ static uint64_t refusal(const struct book *book, const struct call *call)
     book_card(book, card);
     switch (call->kind) {
     case DRAW:
-        return reference_draw_fault(call->role, master_length, card, size, call->args[MESSAGE].length, call->args[PLAN].bytes,
-                                 call->args[PLAN].length, &when);
+        return reference_draw_fault(call->role, master_length, card, size,
+                                    call->args[MESSAGE].length, call->args[PLAN].bytes,
+                                    call->args[PLAN].length, &when);
     case JUDGE:
         return reference_judge_fault(call->role, master_length, card, size);
     case JUDGE_POOL:
@@ -161,9 +177,10 @@ static uint64_t refusal(const struct book *book, const struct call *call)
     default:
         change = change_of(call);
         if (is_ask(call->kind))
-            return reference_ask_fault(call->role, &change, master_length, card, size, table_bytes(book), call->args[SECOND].length,
-                                    totals_length);
-        return reference_change_fault(call->role, &change, master_length, card, size, table_bytes(book), totals_length);
+            return reference_ask_fault(call->role, &change, master_length, card, size,
+                                       table_bytes(book), call->args[SECOND].length, totals_length);
+        return reference_change_fault(call->role, &change, master_length, card, size,
+                                      table_bytes(book), totals_length);
     }
 }
 
@@ -218,7 +235,8 @@ static void change_blocks(struct book *book, const struct call *call)
         add_blocks(book, &call->args[kind == LOAD ? BLOCKS : NEW]);
 }
 
-/* "Every ask takes the last issued plus 1, even after a drop"; "an asked change joins the current blocks at its commit" */
+/* "Every ask takes the last issued plus 1, even after a drop"; "an asked change joins the current
+ * blocks at its commit" */
 static void take_ask(struct book *book, const struct call *call)
 {
     struct card *numbers = &book->numbers;
@@ -251,8 +269,8 @@ static void take_drop(struct book *book)
     book->numbers.pending = book->numbers.pending_n = 0;
 }
 
-/* "Each adds 1 to ctr", where nothing was dropped since the last change: "A one-step change, load or batch too, is ask and commit
- * together" */
+/* "Each adds 1 to ctr", where nothing was dropped since the last change: "A one-step change, load
+ * or batch too, is ask and commit together" */
 static void take_change(struct book *book, const struct call *call)
 {
     change_blocks(book, call);
@@ -264,7 +282,8 @@ static void take_change(struct book *book, const struct call *call)
 static void take_draw(struct book *book)
 {
     struct card *numbers = &book->numbers;
-    reference_fresh_records(book->key, numbers, book->blocks, book->marks, numbers->next, numbers->next, book->spent);
+    reference_fresh_records(book->key, numbers, book->blocks, book->marks, numbers->next,
+                            numbers->next, book->spent);
     numbers->open = numbers->next;
     numbers->next++;
 }
@@ -279,7 +298,8 @@ uint64_t book_answer(struct book *book, const struct call *call)
         take_draw(book);
         break;
     case JUDGE:
-        answer = reference_verdict(book->key, &book->numbers, call->args[REPLY].bytes, call->args[REPLY].length);
+        answer = reference_verdict(book->key, &book->numbers, call->args[REPLY].bytes,
+                                   call->args[REPLY].length);
         book->numbers.open = 0;
         break;
     case JUDGE_POOL:

@@ -11,10 +11,12 @@ struct buffer {
     uint8_t *room; /* what was allocated */
 };
 
-/* From then on buffers have exactly their length and no guard bytes, so that a memory checker sees what goes past either end. */
+/* From then on buffers have exactly their length and no guard bytes, so that a memory checker sees
+ * what goes past either end. */
 void buffers_exact(void);
 
-/* A buffer of bytes that a call may overwrite; a buffer with the bytes given; another with the same bytes, none for none. */
+/* A buffer of bytes that a call may overwrite; a buffer with the bytes given; another with the same
+ * bytes, none for none. */
 struct buffer buffer_blank(size_t length);
 struct buffer buffer_of(const uint8_t *bytes, size_t length);
 struct buffer buffer_copy(const struct buffer *b);

@@ -1,10 +1,11 @@
 /* See calls.h. */
 #include "calls.h"
 
-#include "expect.h"
 #include "dispatch.h"
+#include "expect.h"
 
-/* The buffers that each kind of call takes, a bit for each, those among them that it writes, and the roles that may make it. */
+/* The buffers that each kind of call takes, a bit for each, those among them that it writes, and
+ * the roles that may make it. */
 #define BIT(argument) (1u << (argument))
 #define CHANGE (BIT(MASTER) | BIT(CARD) | BIT(TABLE) | BIT(TOTALS))
 #define ASK (CHANGE | BIT(SECOND))
@@ -31,11 +32,14 @@ static const struct {
     [ASK_BATCH] = {"ask batch", ASK | BIT(ITEMS), ASKED, PLANNER},
     [COMMIT] = {"commit", BIT(CARD), BIT(CARD), PLANNER},
     [DROP] = {"drop", BIT(CARD), BIT(CARD), PLANNER},
-    [DRAW] = {"draw", BIT(MASTER) | BIT(CARD) | BIT(MESSAGE) | BIT(PLAN), BIT(CARD) | BIT(MESSAGE), MANAGER_TOO},
+    [DRAW] = {"draw", BIT(MASTER) | BIT(CARD) | BIT(MESSAGE) | BIT(PLAN), BIT(CARD) | BIT(MESSAGE),
+              MANAGER_TOO},
     [JUDGE] = {"judge", BIT(MASTER) | BIT(CARD) | BIT(REPLY), BIT(CARD), MANAGER_TOO},
     [CAUSE] = {"cause", BIT(MASTER) | BIT(CARD) | BIT(REPLY), 0, MANAGER_TOO},
     [JUDGE_POOL] = {"judge pool", BIT(MASTER) | BIT(CARDS) | BIT(REPLY), BIT(CARDS), MANAGER_TOO},
-    [PROVE] = {"prove", BIT(MESSAGE) | BIT(BLOCKS) | BIT(MARKS) | BIT(TABLE) | BIT(REPLY) | BIT(TOTALS), BIT(REPLY) | BIT(TOTALS), 0},
+    [PROVE] = {"prove",
+               BIT(MESSAGE) | BIT(BLOCKS) | BIT(MARKS) | BIT(TABLE) | BIT(REPLY) | BIT(TOTALS),
+               BIT(REPLY) | BIT(TOTALS), 0},
     [POOL] = {"pool", BIT(REPLIES) | BIT(POOLED), BIT(POOLED), 0},
     [POSITIONS] = {"positions", 0, 0, 0},
     [WAIT] = {"wait", BIT(PLAN), 0, 0},
@@ -44,9 +48,10 @@ static const struct {
     [PARITY_REBUILD] = {"parity rebuild", BIT(BLOCKS) | BIT(LOST) | BIT(OUT), BIT(OUT), 0},
 };
 
-static const char *const arguments[ARGUMENTS] = {"master",    "id",    "blocks",  "card", "table", "second table", "old block", "marks",
-                                                 "new block", "items", "message", "plan", "reply", "totals",       "out",       "cards",
-                                                 "replies",   "pooled reply", "lost"};
+static const char *const arguments[ARGUMENTS] = {
+    "master", "id",        "blocks",  "card",         "table", "second table", "old block",
+    "marks",  "new block", "items",   "message",      "plan",  "reply",        "totals",
+    "out",    "cards",     "replies", "pooled reply", "lost"};
 
 static unsigned long counts[KINDS][LAST_CODE + 1];
 
@@ -116,21 +121,26 @@ void call_free(struct call *call)
 
 uint64_t call_library(struct call *call)
 {
-    DISPATCH(legbaro, )
+    DISPATCH(legbaro, );
 }
 
 uint64_t call_reference(struct call *call)
 {
-    DISPATCH(reference, )
+    DISPATCH(reference, );
 }
 
-/* What is expected of one buffer after a call: `ours` after the library, `theirs` after the reference implementation, `before`. */
-static void compare_buffer(enum kind kind, enum argument argument, int written, const struct buffer *ours, const struct buffer *theirs,
+/* What is expected of one buffer after a call: `ours` after the library, `theirs` after the
+ * reference implementation, `before`. */
+static void compare_buffer(enum kind kind, enum argument argument, int written,
+                           const struct buffer *ours, const struct buffer *theirs,
                            const struct buffer *before)
 {
-    expect(buffer_same(ours, theirs), "%s: the reference implementation's %s", kinds[kind].name, arguments[argument]);
-    expect(written || buffer_same(ours, before), "%s: the %s as it was", kinds[kind].name, arguments[argument]);
-    expect(buffer_guarded(ours), "%s: nothing written around the %s", kinds[kind].name, arguments[argument]);
+    expect(buffer_same(ours, theirs), "%s: the reference implementation's %s", kinds[kind].name,
+           arguments[argument]);
+    expect(written || buffer_same(ours, before), "%s: the %s as it was", kinds[kind].name,
+           arguments[argument]);
+    expect(buffer_guarded(ours), "%s: nothing written around the %s", kinds[kind].name,
+           arguments[argument]);
 }
 
 uint64_t call_compare_by(uint64_t (*run)(struct call *), struct call *call)
@@ -141,12 +151,13 @@ uint64_t call_compare_by(uint64_t (*run)(struct call *), struct call *call)
     int refused = LEGBARO_CODE(number) != LEGBARO_OK && LEGBARO_CODE(number) != LEGBARO_REJECTED;
     if (LEGBARO_CODE(number) <= LAST_CODE)
         counts[call->kind][LEGBARO_CODE(number)]++;
-    expect(number == expected, "%s: number %llu, not %llu", kinds[call->kind].name, (unsigned long long)expected,
-           (unsigned long long)number);
+    expect(number == expected, "%s: number %llu, not %llu", kinds[call->kind].name,
+           (unsigned long long)expected, (unsigned long long)number);
     for (int argument = 0; argument < ARGUMENTS; argument++)
         if (call_takes(call->kind, argument)) {
             int written = !refused && (kinds[call->kind].writes & BIT(argument));
-            compare_buffer(call->kind, argument, written, &call->args[argument], &other.args[argument], &before.args[argument]);
+            compare_buffer(call->kind, argument, written, &call->args[argument],
+                           &other.args[argument], &before.args[argument]);
         }
     call_free(&before);
     call_free(&other);
@@ -161,7 +172,8 @@ uint64_t call_compare(struct call *call)
 struct totals call_totals(const struct call *call)
 {
     const struct buffer *totals = &call->args[TOTALS];
-    return (struct totals){buffer_number(totals, LEGBARO_TOTALS_TURNS, 8), buffer_number(totals, LEGBARO_TOTALS_HASHES, 8)};
+    return (struct totals){buffer_number(totals, LEGBARO_TOTALS_TURNS, 8),
+                           buffer_number(totals, LEGBARO_TOTALS_HASHES, 8)};
 }
 
 int totals_same(struct totals a, struct totals b)
@@ -177,8 +189,8 @@ unsigned long call_count(enum kind kind, uint64_t code)
 void call_expect(struct call *call, uint64_t number, const char *what)
 {
     uint64_t returned = call_compare(call);
-    expect(returned == number, "%s, %s: %llu, not %llu", kinds[call->kind].name, what, (unsigned long long)number,
-           (unsigned long long)returned);
+    expect(returned == number, "%s, %s: %llu, not %llu", kinds[call->kind].name, what,
+           (unsigned long long)number, (unsigned long long)returned);
 }
 
 void call_finish(struct call *call, uint64_t number, const char *what)
@@ -193,8 +205,9 @@ void call_alike(struct call *call, struct call *other)
     call_expect(call, LEGBARO_OK, "accepted");
     call_expect(other, LEGBARO_OK, "accepted");
     for (size_t i = 0; i < sizeof written / sizeof *written; i++)
-        expect(buffer_same(&call->args[written[i]], &other->args[written[i]]), "%s: buffer %d as by %s", call_name(call->kind),
-               (int)written[i], call_name(other->kind));
+        expect(buffer_same(&call->args[written[i]], &other->args[written[i]]),
+               "%s: buffer %d as by %s", call_name(call->kind), (int)written[i],
+               call_name(other->kind));
     call_free(call);
     call_free(other);
 }

@@ -1,4 +1,5 @@
-/* One call as a value: which it is, its numbers and its buffers. The library and the reference implementation can run it. */
+/* One call as a value: which it is, its numbers and its buffers. The library and the reference
+ * implementation can run it. */
 #ifndef CALLS_H
 #define CALLS_H
 
@@ -64,12 +65,13 @@ enum argument {
 
 struct call {
     enum kind kind;
-    uint64_t role;                     /* of who makes a call on a card, set-up apart */
-    uint64_t version, B, d, r, t, n;   /* of a set-up and of a sheet; positions takes r, d and n; of parity B, the data
-                                          blocks n and the parity blocks r */
-    uint64_t m;                        /* the block number of an update or a deletion, asked too; the damaged rows of a sheet */
+    uint64_t role; /* of who makes a call on a card, set-up apart */
+    /* Of a set-up and of a sheet; positions takes r, d and n; of parity B, the data blocks n and
+     * the parity blocks r. */
+    uint64_t version, B, d, r, t, n;
+    uint64_t m; /* the block of an update or a deletion, asked too; the damaged rows of a sheet */
     uint64_t year, month, day, minute; /* of a draw and of a wait */
-    size_t card_offset;                      /* in a list, where the file's own card lies among the cards of a pooled judging */
+    size_t card_offset; /* of the file's own card among the cards of a pooled judging, in a list */
     struct buffer args[ARGUMENTS];
 };
 
@@ -82,7 +84,8 @@ int call_takes(enum kind kind, enum argument argument);
 /* Whether a role may make calls of a kind; no role may where they take none. */
 int call_permits(enum kind kind, uint64_t role);
 
-/* Whether a kind is a change in one step, or an ask; a change asked, and the change that is asked. Kinds of other calls stay. */
+/* Whether a kind is a change in one step, or an ask; a change asked, and the change that is asked.
+ * Kinds of other calls stay. */
 int is_change(enum kind kind);
 int is_ask(enum kind kind);
 enum kind asked(enum kind change);
@@ -100,9 +103,10 @@ void call_free(struct call *call);
 uint64_t call_library(struct call *call);
 uint64_t call_reference(struct call *call);
 
-/* Runs the call on the library, and a copy of it on the reference implementation. Expects the same number and the same bytes in every buffer;
- * buffers that the call does not write, and in a refusal all of them, to be as they were; guard bytes too. Answers the number.
- * `call_compare_by` runs the call by `run` instead of the library. */
+/* Runs the call on the library, and a copy of it on the reference implementation. Expects the same
+ * number and the same bytes in every buffer; buffers that the call does not write, and in a refusal
+ * all of them, to be as they were; guard bytes too. Answers the number. `call_compare_by` runs the
+ * call by `run` instead of the library. */
 uint64_t call_compare(struct call *call);
 uint64_t call_compare_by(uint64_t (*run)(struct call *), struct call *call);
 

@@ -6,7 +6,8 @@
 void test_begin(const char *name, ...);
 void test_end(void);
 
-/* Counts one check of the test. Where it does not hold, says what was expected: the first few times in a test. */
+/* Counts one check of the test. Where it does not hold, says what was expected: the first few times
+ * in a test. */
 void expect(int holds, const char *what, ...);
 
 /* Prints 'N passed, M failed', the number of tests, and answers whether none failed. */

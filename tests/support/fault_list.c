@@ -45,7 +45,7 @@ const struct field fault_fields[TARGETS] = {
 };
 
 /* A change, in one step or asked. */
-#define EITHER(change) (IN(change) | IN((change) - UPDATE + ASK_UPDATE))
+#define EITHER(change) (IN(change) | IN(ASK_UPDATE - UPDATE + (change)))
 
 #define ASKS (IN(ASK_UPDATE) | IN(ASK_DELETE) | IN(ASK_APPEND) | IN(ASK_LOAD) | IN(ASK_BATCH))
 #define CHANGES (IN(UPDATE) | IN(DELETE) | IN(APPEND) | IN(LOAD) | IN(BATCH) | ASKS)
@@ -65,13 +65,21 @@ const struct field fault_fields[TARGETS] = {
 #define ONE_STEP (IN_VERSION(LEGBARO_WITHOUT_MARKS) | IN_VERSION(LEGBARO_WITH_MARKS))
 #define MARKED (IN_VERSION(LEGBARO_WITH_MARKS) | TWO_STEPS)
 
-#define TOO_SHORT(kinds, check, argument) {kinds, check, LENGTH_OF(argument), NO_BYTES}, {kinds, check, LENGTH_OF(argument), ONE_LESS}
-#define WRONG_LENGTH(kinds, check, argument) TOO_SHORT(kinds, check, argument), {kinds, check, LENGTH_OF(argument), ONE_MORE}
-#define IN_EACH_CARD(check, target, value)                                                                                     \
-    {IN(JUDGE_POOL), check, OF_CARD(0, target), value}, {IN(JUDGE_POOL), check, OF_CARD(1, target), value},                   \
-        {IN(JUDGE_POOL), check, OF_CARD(2, target), value}
+/* clang-format off */
+#define TOO_SHORT(kinds, check, argument)                                                          \
+    {kinds, check, LENGTH_OF(argument), NO_BYTES},                                                 \
+    {kinds, check, LENGTH_OF(argument), ONE_LESS}
+#define WRONG_LENGTH(kinds, check, argument)                                                       \
+    TOO_SHORT(kinds, check, argument),                                                             \
+    {kinds, check, LENGTH_OF(argument), ONE_MORE}
+#define IN_EACH_CARD(check, target, value)                                                         \
+    {IN(JUDGE_POOL), check, OF_CARD(0, target), value},                                            \
+    {IN(JUDGE_POOL), check, OF_CARD(1, target), value},                                            \
+    {IN(JUDGE_POOL), check, OF_CARD(2, target), value}
+/* clang-format on */
 
-/* `next` stands before `open`, what is pending after other fields of the card, and lengths are last. */
+/* `next` stands before `open`, what is pending after other fields of the card, and lengths are
+ * last. */
 const struct fault faults[] = {
     {WITH_ROLE, PERMISSION, NUMBER_ROLE, 0},
     {WITH_ROLE, PERMISSION, NUMBER_ROLE, LEGBARO_MANAGER + 1},
@@ -304,8 +312,10 @@ uint64_t fault_number(enum check check, enum kind kind)
         [LOSSES] = LEGBARO_TOO_MANY_LOST,
         [SIZE] = LEGBARO_WRONG_LENGTH,
         [MARK] = LEGBARO_BAD_MARK,
-        [OPEN_OR_NOT] = kind == JUDGE || kind == CAUSE || kind == JUDGE_POOL ? LEGBARO_NONE_OPEN : LEGBARO_TOKEN_OPEN,
-        [PENDING_OR_NOT] = kind == COMMIT || kind == DROP ? LEGBARO_NONE_PENDING : LEGBARO_CHANGE_PENDING,
+        [OPEN_OR_NOT] = kind == JUDGE || kind == CAUSE || kind == JUDGE_POOL ? LEGBARO_NONE_OPEN
+                                                                             : LEGBARO_TOKEN_OPEN,
+        [PENDING_OR_NOT] =
+            kind == COMMIT || kind == DROP ? LEGBARO_NONE_PENDING : LEGBARO_CHANGE_PENDING,
         [TOKENS_LEFT] = LEGBARO_NO_TOKEN_LEFT,
         [ITEMS_FIT] = LEGBARO_BAD_BATCH,
         [ITEM_MARKS] = LEGBARO_BAD_MARK,

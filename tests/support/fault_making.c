@@ -13,11 +13,13 @@ static size_t pool_offset(enum argument argument, uint64_t version, size_t e)
 {
     size_t offset = 0;
     while (e--)
-        offset += argument == REPLIES ? LEGBARO_REPLY_BYTES : reference_card_bytes(fault_pool_version(version, e));
+        offset += argument == REPLIES ? LEGBARO_REPLY_BYTES
+                                      : reference_card_bytes(fault_pool_version(version, e));
     return offset;
 }
 
-/* Puts the first file's card or reply after the last one's until there is one file too many, each with an id of its own. */
+/* Puts the first file's card or reply after the last one's until there is one file too many, each
+ * with an id of its own. */
 static void make_one_file_too_many(struct call *call, enum argument argument, uint64_t version)
 {
     struct buffer *b = &call->args[argument];
@@ -36,7 +38,8 @@ static void make_pool_fault(struct call *call, const struct fault *fault, uint64
     size_t card = pool_offset(CARDS, version, fault->target / TARGETS - 1);
     const struct field *field = &fault_fields[fault->target % TARGETS];
     if (fault->target % TARGETS == CARD_ID)
-        memcpy(cards->bytes + card + LEGBARO_CARD_ID, cards->bytes + pool_offset(CARDS, version, fault->value) + LEGBARO_CARD_ID,
+        memcpy(cards->bytes + card + LEGBARO_CARD_ID,
+               cards->bytes + pool_offset(CARDS, version, fault->value) + LEGBARO_CARD_ID,
                LEGBARO_ID_BYTES);
     else
         buffer_put_number(cards, card + field->at, field->width, fault->value);
@@ -44,22 +47,28 @@ static void make_pool_fault(struct call *call, const struct fault *fault, uint64
 
 static void make_length_fault(struct buffer *b, uint64_t value, uint64_t version)
 {
-    size_t lengths[] = {[NO_BYTES] = 0,
-                        [ONE_LESS] = b->length - 1,
-                        [ONE_MORE] = b->length + 1,
-                        [ONE_ITEM_TOO_MANY] = (LEGBARO_MOST_ITEMS + 1) * LEGBARO_ITEM_BYTES(version, B),
-                        [OTHER_CARD] = LEGBARO_CARD_BYTES + LEGBARO_TWO_STEP_CARD_BYTES - b->length};
+    size_t lengths[] = {
+        [NO_BYTES] = 0,
+        [ONE_LESS] = b->length - 1,
+        [ONE_MORE] = b->length + 1,
+        [ONE_ITEM_TOO_MANY] = (LEGBARO_MOST_ITEMS + 1) * LEGBARO_ITEM_BYTES(version, B),
+        [OTHER_CARD] = LEGBARO_CARD_BYTES + LEGBARO_TWO_STEP_CARD_BYTES - b->length};
     buffer_resize(b, lengths[value]);
 }
 
 /* Puts what is pending into a card of version 3. */
 static void make_pending(struct buffer *card, uint64_t value)
 {
-    uint64_t last = buffer_number(card, LEGBARO_CARD_LAST_ISSUED, 8), n = buffer_number(card, LEGBARO_CARD_BLOCKS, 4);
-    const uint64_t counters[] = {[NOTHING] = 0,         [LAST_ISSUED] = last,    [COUNTER_ALONE] = last, [BLOCKS_ALONE] = 0,
-                                 [BELOW_LAST] = last - 1, [ABOVE_LAST] = last + 1, [FEWER_BLOCKS] = last,  [TOO_MANY_BLOCKS] = last};
-    const uint64_t blocks[] = {[NOTHING] = 0,    [LAST_ISSUED] = n, [COUNTER_ALONE] = 0,    [BLOCKS_ALONE] = n,
-                               [BELOW_LAST] = n, [ABOVE_LAST] = n,  [FEWER_BLOCKS] = n - 1, [TOO_MANY_BLOCKS] = LEGBARO_MOST_BLOCKS + 1};
+    uint64_t last = buffer_number(card, LEGBARO_CARD_LAST_ISSUED, 8),
+             n = buffer_number(card, LEGBARO_CARD_BLOCKS, 4);
+    const uint64_t counters[] = {
+        [NOTHING] = 0,         [LAST_ISSUED] = last,    [COUNTER_ALONE] = last,
+        [BLOCKS_ALONE] = 0,    [BELOW_LAST] = last - 1, [ABOVE_LAST] = last + 1,
+        [FEWER_BLOCKS] = last, [TOO_MANY_BLOCKS] = last};
+    const uint64_t blocks[] = {[NOTHING] = 0,          [LAST_ISSUED] = n,
+                               [COUNTER_ALONE] = 0,    [BLOCKS_ALONE] = n,
+                               [BELOW_LAST] = n,       [ABOVE_LAST] = n,
+                               [FEWER_BLOCKS] = n - 1, [TOO_MANY_BLOCKS] = LEGBARO_MOST_BLOCKS + 1};
     buffer_put_number(card, LEGBARO_CARD_PENDING_COUNTER, 8, counters[value]);
     buffer_put_number(card, LEGBARO_CARD_PENDING_BLOCKS, 4, blocks[value]);
 }
@@ -77,8 +86,9 @@ static void make_field_fault(struct call *call, const struct fault *fault, uint6
 
 void fault_make(struct call *call, const struct fault *fault, uint64_t version)
 {
-    uint64_t *const numbers[] = {&call->version, &call->B,    &call->d,     &call->r,   &call->t,     &call->n,
-                                 &call->m,       &call->year, &call->month, &call->day, &call->minute, &call->role};
+    uint64_t *const numbers[] = {&call->version, &call->B,   &call->d,      &call->r,
+                                 &call->t,       &call->n,   &call->m,      &call->year,
+                                 &call->month,   &call->day, &call->minute, &call->role};
     if (fault->target > TARGETS)
         make_pool_fault(call, fault, version);
     else if (fault->target < LENGTH_OF(ARGUMENTS) && fault->value == ONE_FILE_TOO_MANY)

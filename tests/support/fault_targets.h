@@ -4,8 +4,9 @@
 
 #include "fault_list.h"
 
-/* What a fault alters: the length of a buffer, which is named as the argument is, a number, a field of card, message, items or replies, what
- * is pending, a mark, a lost block's number, record 2, or the id of a pool's card. */
+/* What a fault alters: the length of a buffer, which is named as the argument is, a number, a field
+ * of card, message, items or replies, what is pending, a mark, a lost block's number, record 2, or
+ * the id of a pool's card. */
 enum target {
     NUMBER_VERSION = ARGUMENTS,
     NUMBER_B,
@@ -79,12 +80,22 @@ struct field {
 
 extern const struct field fault_fields[TARGETS];
 
-/* Values with a meaning of their own: the token before next, whatever that is, for CARD_OPEN; for what is pending nothing, the last counter
- * issued with as many blocks as there are, one of these alone, and another counter or number of blocks; for the length of a buffer none, one
- * byte less, one byte more, one item more than a batch may have, the other size of a card, and one file more than a pool may have; for CARD_ID
- * the card that has the id too. */
+/* Values with a meaning of their own: the token before next, whatever that is, for CARD_OPEN; for
+ * what is pending nothing, the last counter issued with as many blocks as there are, one of these
+ * alone, and another counter or number of blocks; for the length of a buffer none, one byte less,
+ * one byte more, one item more than a batch may have, the other size of a card, and one file more
+ * than a pool may have; for CARD_ID the card that has the id too. */
 #define BEFORE_NEXT UINT64_MAX
-enum { NOTHING, LAST_ISSUED, COUNTER_ALONE, BLOCKS_ALONE, BELOW_LAST, ABOVE_LAST, FEWER_BLOCKS, TOO_MANY_BLOCKS };
+enum {
+    NOTHING,
+    LAST_ISSUED,
+    COUNTER_ALONE,
+    BLOCKS_ALONE,
+    BELOW_LAST,
+    ABOVE_LAST,
+    FEWER_BLOCKS,
+    TOO_MANY_BLOCKS
+};
 enum { NO_BYTES, ONE_LESS, ONE_MORE, ONE_ITEM_TOO_MANY, OTHER_CARD, ONE_FILE_TOO_MANY };
 
 #endif

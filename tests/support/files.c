@@ -2,8 +2,8 @@
 #include "files.h"
 
 #include "chance.h"
-#include "expect.h"
 #include "draw_times.h"
+#include "expect.h"
 
 #include <string.h>
 
@@ -30,7 +30,8 @@ uint64_t any_permitted(enum kind kind)
     return call_permits(kind, role) ? role : LEGBARO_PLANNER;
 }
 
-struct call file_set_up_call(uint64_t version, uint64_t B, uint64_t d, uint64_t r, uint64_t t, uint64_t n)
+struct call file_set_up_call(uint64_t version, uint64_t B, uint64_t d, uint64_t r, uint64_t t,
+                             uint64_t n)
 {
     struct call call = {.kind = SET_UP, .version = version, .B = B, .d = d, .r = r, .t = t, .n = n};
     call.args[MASTER] = any_bytes(LEGBARO_MASTER_BYTES);
@@ -57,7 +58,8 @@ struct file file_of(const struct call *set_up)
     return file;
 }
 
-struct file file_set_up(uint64_t version, uint64_t B, uint64_t d, uint64_t r, uint64_t t, uint64_t n)
+struct file file_set_up(uint64_t version, uint64_t B, uint64_t d, uint64_t r, uint64_t t,
+                        uint64_t n)
 {
     struct call call = file_set_up_call(version, B, d, r, t, n);
     struct file file = file_of(&call);
@@ -84,10 +86,12 @@ static struct buffer current_blocks(const struct file *file)
 /* The marks from block m on, so many; none in version 1. */
 static struct buffer current_marks(const struct file *file, uint64_t m, uint64_t count)
 {
-    return buffer_of(book_mark(&file->book, m), file->book.numbers.version == LEGBARO_WITHOUT_MARKS ? 0 : count);
+    return buffer_of(book_mark(&file->book, m),
+                     file->book.numbers.version == LEGBARO_WITHOUT_MARKS ? 0 : count);
 }
 
-/* The host's reply to the message drawn last, which is made where a token is open, and else blank. */
+/* The host's reply to the message drawn last, which is made where a token is open, and else
+ * blank. */
 static struct buffer honest_reply(const struct file *file)
 {
     struct call proof = file_call(file, PROVE);
@@ -112,9 +116,11 @@ static struct buffer items_of(const struct file *file, const uint64_t *blocks, s
         buffer_put_number(&items, file_item_at(file, e, LEGBARO_ITEM_KIND), 1,
                           chance_of(2) ? LEGBARO_ITEM_UPDATE : LEGBARO_ITEM_DELETE);
         buffer_put_number(&items, file_item_at(file, e, LEGBARO_ITEM_BLOCK), 4, blocks[e]);
-        memcpy(items.bytes + file_item_at(file, e, LEGBARO_ITEM_OLD), book_block(&file->book, blocks[e]), B);
+        memcpy(items.bytes + file_item_at(file, e, LEGBARO_ITEM_OLD),
+               book_block(&file->book, blocks[e]), B);
         if (file->book.numbers.version != LEGBARO_WITHOUT_MARKS)
-            items.bytes[file_item_at(file, e, LEGBARO_ITEM_MARK(B))] = *book_mark(&file->book, blocks[e]);
+            items.bytes[file_item_at(file, e, LEGBARO_ITEM_MARK(B))] =
+                *book_mark(&file->book, blocks[e]);
     }
     return items;
 }
@@ -149,7 +155,8 @@ static void set_draw_time(struct call *call)
 struct call file_call(const struct file *file, enum kind kind)
 {
     const struct card *numbers = &file->book.numbers;
-    struct call call = {.kind = kind, .role = any_permitted(kind), .m = 1 + chance_below(numbers->n)};
+    struct call call = {
+        .kind = kind, .role = any_permitted(kind), .m = 1 + chance_below(numbers->n)};
     if (call_takes(kind, MASTER))
         call.args[MASTER] = buffer_copy(&file->master);
     if (call_takes(kind, CARD))
@@ -159,11 +166,14 @@ struct call file_call(const struct file *file, enum kind kind)
     if (call_takes(kind, SECOND))
         call.args[SECOND] = any_bytes(file->table.length);
     if (call_takes(kind, BLOCKS))
-        call.args[BLOCKS] = unasked(kind) == LOAD ? any_bytes((1 + chance_below(A_FEW)) * numbers->B) : current_blocks(file);
+        call.args[BLOCKS] = unasked(kind) == LOAD
+                                ? any_bytes((1 + chance_below(A_FEW)) * numbers->B)
+                                : current_blocks(file);
     if (call_takes(kind, OLD))
         call.args[OLD] = buffer_of(book_block(&file->book, call.m), numbers->B);
     if (call_takes(kind, MARKS))
-        call.args[MARKS] = kind == PROVE ? current_marks(file, 1, numbers->n) : current_marks(file, call.m, 1);
+        call.args[MARKS] =
+            kind == PROVE ? current_marks(file, 1, numbers->n) : current_marks(file, call.m, 1);
     if (call_takes(kind, NEW))
         call.args[NEW] = any_bytes(numbers->B);
     if (call_takes(kind, ITEMS))
@@ -173,7 +183,8 @@ struct call file_call(const struct file *file, enum kind kind)
     if (call_takes(kind, PLAN))
         set_draw_time(&call);
     if (call_takes(kind, REPLY))
-        call.args[REPLY] = kind == JUDGE || kind == CAUSE ? honest_reply(file) : buffer_blank(LEGBARO_REPLY_BYTES);
+        call.args[REPLY] =
+            kind == JUDGE || kind == CAUSE ? honest_reply(file) : buffer_blank(LEGBARO_REPLY_BYTES);
     if (call_takes(kind, TOTALS))
         call.args[TOTALS] = any_bytes(LEGBARO_TOTALS_BYTES);
     return call;
@@ -216,7 +227,8 @@ struct call file_batch_of(const struct file *file, const uint64_t *blocks, size_
     return batch_call(file, items_of(file, blocks, items));
 }
 
-/* Gives a buffer of the file the bytes that a call left in its own, where the call has one of that length. */
+/* Gives a buffer of the file the bytes that a call left in its own, where the call has one of that
+ * length. */
 static void take_over(struct buffer *held, const struct buffer *left)
 {
     if (!left->bytes || left->length != held->length)
@@ -229,8 +241,8 @@ uint64_t file_run(struct file *file, struct call *call)
 {
     uint64_t answer = book_answer(&file->book, call);
     uint64_t number = call_compare(call);
-    expect(number == answer, "%s: the book's number %llu, not %llu", call_name(call->kind), (unsigned long long)answer,
-           (unsigned long long)number);
+    expect(number == answer, "%s: the book's number %llu, not %llu", call_name(call->kind),
+           (unsigned long long)answer, (unsigned long long)number);
     take_over(&file->card, &call->args[CARD]);
     take_over(&file->table, &call->args[TABLE]);
     take_over(&file->message, &call->args[MESSAGE]);
@@ -251,7 +263,8 @@ static void run_accepted(struct file *file, struct call *call)
 {
     enum kind kind = call->kind;
     uint64_t number = file_run(file, call);
-    expect(number == LEGBARO_OK, "%s: accepted, not %llu", call_name(kind), (unsigned long long)number);
+    expect(number == LEGBARO_OK, "%s: accepted, not %llu", call_name(kind),
+           (unsigned long long)number);
 }
 
 void file_do(struct file *file, enum kind kind)
@@ -278,14 +291,16 @@ void file_audit(struct file *file)
     file_do(file, JUDGE);
 }
 
-const uint64_t block_sizes[BLOCK_SIZES] = {1,  18, 19, 20, 26, 27,  28,  29,  82,  83,
-                                           84, 90, 91, 92, 93, 146, 147, 148, 183, LEGBARO_MOST_BLOCK_BYTES};
+const uint64_t block_sizes[BLOCK_SIZES] = {
+    1,  18, 19, 20, 26, 27,  28,  29,  82,  83,
+    84, 90, 91, 92, 93, 146, 147, 148, 183, LEGBARO_MOST_BLOCK_BYTES};
 
 void file_each_size(void (*look)(const struct file *file))
 {
     for (size_t b = 0; b < BLOCK_SIZES; b++)
         for (uint64_t n = 1; n <= 12; n = tried_after(n, 6)) {
-            struct file file = file_set_up(any_version(), block_sizes[b], 5, 1 + chance_below(5), 3, n);
+            struct file file =
+                file_set_up(any_version(), block_sizes[b], 5, 1 + chance_below(5), 3, n);
             look(&file);
             file_audit(&file);
             look(&file);

@@ -17,7 +17,8 @@ struct call parity_encoding(uint64_t B, uint64_t k, uint64_t p)
 struct call parity_rebuilding(const struct call *encoding, const uint8_t *lost, size_t count)
 {
     size_t B = encoding->B, k = encoding->n, p = encoding->r;
-    struct call call = {.kind = PARITY_REBUILD, .B = B, .n = k, .r = p}, encoded = call_copy(encoding);
+    struct call call = {.kind = PARITY_REBUILD, .B = B, .n = k, .r = p},
+                encoded = call_copy(encoding);
     call_reference(&encoded);
     call.args[BLOCKS] = buffer_blank((k + p) * B);
     memcpy(call.args[BLOCKS].bytes, encoded.args[BLOCKS].bytes, k * B);

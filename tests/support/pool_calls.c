@@ -29,7 +29,8 @@ struct call pooling_call(const struct file *const *files, size_t count)
     call.args[POOLED] = buffer_blank(LEGBARO_POOLED_BYTES(count));
     for (size_t e = 0; e < count; e++) {
         struct call judge = file_call(files[e], JUDGE);
-        memcpy(call.args[REPLIES].bytes + e * LEGBARO_REPLY_BYTES, judge.args[REPLY].bytes, LEGBARO_REPLY_BYTES);
+        memcpy(call.args[REPLIES].bytes + e * LEGBARO_REPLY_BYTES, judge.args[REPLY].bytes,
+               LEGBARO_REPLY_BYTES);
         call_free(&judge);
     }
     return call;
@@ -46,12 +47,14 @@ static size_t card_offset(const struct file *const *files, size_t e)
 
 struct call pool_call(const struct file *const *files, size_t count)
 {
-    struct call call = {.kind = JUDGE_POOL, .role = any_permitted(JUDGE_POOL)}, pooling = pooling_call(files, count);
+    struct call call = {.kind = JUDGE_POOL, .role = any_permitted(JUDGE_POOL)},
+                pooling = pooling_call(files, count);
     call_compare(&pooling);
     call.args[MASTER] = count ? buffer_copy(&files[0]->master) : buffer_blank(LEGBARO_MASTER_BYTES);
     call.args[CARDS] = buffer_blank(card_offset(files, count));
     for (size_t e = 0; e < count; e++)
-        memcpy(call.args[CARDS].bytes + card_offset(files, e), files[e]->card.bytes, files[e]->card.length);
+        memcpy(call.args[CARDS].bytes + card_offset(files, e), files[e]->card.bytes,
+               files[e]->card.length);
     call.args[REPLY] = buffer_copy(&pooling.args[POOLED]);
     call_free(&pooling);
     return call;
@@ -77,7 +80,8 @@ struct call pool_among_others(const struct file *file)
 size_t pool_cut(const struct buffer *cards, size_t *offsets)
 {
     size_t count = 0;
-    for (size_t at = 0; at + 2 <= cards->length && count < POOL_ROOM; at += 2 + buffer_number(cards, at, 2))
+    for (size_t at = 0; at + 2 <= cards->length && count < POOL_ROOM;
+         at += 2 + buffer_number(cards, at, 2))
         offsets[count++] = at;
     return count;
 }
