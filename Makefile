@@ -31,7 +31,7 @@ command: $(OUT)/legbaro
 $(OUT)/legbaro: $(wildcard command/*.c command/*.h) $(LIB)/liblegbaro.a $(HEADERS)
 	@tools/needs cc
 	@mkdir -p $(OUT)
-	$(COMPILE) $(filter %.c,$^) -o $@ $(LINK) -lm
+	$(COMPILE) $(filter %.c,$^) -o $@ $(LINK) -lm -l:libz.a
 
 demo: $(OUT)/legbaro
 	@command/demo $<

@@ -41,13 +41,13 @@ _legbaro_options() { # COMMAND SECOND
     draw) echo --role --key --plan --at ;;
     wait) echo --plan --at ;;
     cause | judge | judge-pool) echo --role --key ;;
-    apply) echo --check --committed ;;
-    prove | pool) echo --out ;;
+    apply) echo --check --committed --progress ;;
+    prove | pool) echo --out --force ;;
     positions) echo --positions --rows --blocks ;;
-    sheet) echo --block-bytes --rows --positions --tokens --blocks --damaged --svg ;;
+    sheet) echo --block-bytes --rows --positions --tokens --blocks --damaged --svg --force ;;
     parity)
         echo --block-bytes --data --parity
-        [ "$2" = check ] || echo --out
+        [ "$2" = check ] || echo --out --force
         [ "$2" = encode ] || echo --blocks
         [ "$2" != rebuild ] || echo --lost --lost-parity
         ;;

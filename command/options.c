@@ -27,6 +27,7 @@ static const struct option {
     {"svg", TEXT, offsetof(struct options, svg)},
     {"lost", TEXT, offsetof(struct options, lost)},
     {"lost-parity", TEXT, offsetof(struct options, lost_parity)},
+    {"committed", TEXT, offsetof(struct options, committed)},
     {"role", ROLE, offsetof(struct options, role)},
     {"mark", MARK, offsetof(struct options, mark)},
     {"version", NUMBER, offsetof(struct options, version)},
@@ -41,7 +42,7 @@ static const struct option {
     {"json", FLAG, offsetof(struct options, json)},
     {"progress", FLAG, offsetof(struct options, progress)},
     {"check", FLAG, offsetof(struct options, check)},
-    {"committed", FLAG, offsetof(struct options, committed)},
+    {"force", FLAG, offsetof(struct options, force)},
 };
 
 static const char *const see = "'legbaro help' and legbaro(1) tell the commands and their options.";

@@ -2,6 +2,7 @@
 #define _GNU_SOURCE
 #include "owner.h"
 #include "change.h"
+#include "receipt.h"
 #include "report.h"
 
 #include "legbaro.h"
@@ -105,6 +106,7 @@ void settle(const struct folder *folder, struct bytes card)
         take_away(folder, "card.new");
     settle_change(folder, card);
     settle_message(folder, card);
+    settle_receipt(folder, card);
 }
 
 void store_card(const struct folder *folder, struct bytes card)

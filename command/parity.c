@@ -3,6 +3,7 @@
 #include "commands.h"
 #include "groups.h"
 #include "numbers.h"
+#include "output.h"
 #include "report.h"
 
 #include "legbaro.h"
@@ -77,6 +78,7 @@ int run_parity_encode(const struct options *o)
 {
     struct groups g = read_blocks(o);
     needs_text(o->out, "--out, the file for the parity blocks,");
+    struct output out = check_output(o, o->out, NULL, NULL);
     struct bytes all = shared_room(g.count * g.parity * g.bytes);
     for (uint64_t i = 0; i < g.count; i++) {
         struct bytes data = {g.file.at + i * g.data * g.bytes, data_of(&g, i) * g.bytes};
@@ -86,7 +88,7 @@ int run_parity_encode(const struct options *o)
             refuse_group(&g, i, result);
     }
     const struct piece piece = {all.at, all.length};
-    store_at(o->out, &piece, 1);
+    write_output(&out, &piece, 1);
     field("blocks", g.blocks);
     field("parity", g.count * g.parity);
     field_text("file", o->out);
@@ -324,6 +326,7 @@ int run_parity_rebuild(const struct options *o)
     read_lost("--lost-parity", o->lost_parity, g.kept_states, g.count * g.parity);
     struct group group = new_group(&g);
     struct piece *pieces = (struct piece *)room(g.count * sizeof *pieces).at;
+    struct output out = check_output(o, o->out, NULL, NULL);
     uint64_t rebuilt = 0, unchecked = 0;
     tell_missing(&g);
     for (uint64_t i = 0; i < g.count; i++) {
@@ -338,7 +341,7 @@ int run_parity_rebuild(const struct options *o)
         rebuilt += group.lost != 0;
         unchecked += group.lost == g.parity;
     }
-    store_at(o->out, pieces, (int)g.count);
+    write_output(&out, pieces, (int)g.count);
     tell_rebuilt(&g, rebuilt, unchecked);
     return ended(DONE);
 }

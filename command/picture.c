@@ -1,12 +1,13 @@
 /* See picture.h. The chance has a logarithmic scale from 1 to one in a million; a curve that goes below leaves its plot. */
 #define _GNU_SOURCE
 #include "picture.h"
-#include "files.h"
+#include "output.h"
 #include "report.h"
 
 #include <math.h>
 #include <stdio.h>
 #include <stdlib.h>
+#include <string.h>
 
 /* Two plots above, and one below that is as wide as both. */
 enum { WIDTH = 1560, HEIGHT = 1020, LEFT = 150, RIGHT = 930, PLOT_WIDTH = 400 };
@@ -18,6 +19,10 @@ static const char *const colours[MOST_CURVES] = {"#56b4e9", "#0072b2", "#009e73"
 static const char *const planned_colour = "#d55e00";
 
 static const char *const positions_axis = "r, positions that an audit draws (number of rows)";
+
+/* What the file has within its first bytes. */
+enum { NEAR = 512 };
+static const char title[] = "<title>Risk and reading of an audit</title>\n";
 
 /* One curve: the number that it is for, and the last x that it has a value for. Behind that the value is 0. */
 struct curve {
@@ -326,8 +331,8 @@ static void draw(FILE *f, const struct numbers *of)
             "<svg xmlns=\"http://www.w3.org/2000/svg\" width=\"%d\" height=\"%d\" viewBox=\"0 0 %d %d\" font-family=\"sans-serif\" "
             "font-size=\"15\" style=\"max-width:100%%;height:auto\">\n",
             WIDTH, HEIGHT, WIDTH, HEIGHT);
-    fputs("<title>Risk and reading of an audit</title>\n"
-          "<style>.grid{stroke:#ddd}.frame{fill:none;stroke:#444}.title{font-weight:bold}.head{font-size:24px;font-weight:bold}"
+    fputs(title, f);
+    fputs("<style>.grid{stroke:#ddd}.frame{fill:none;stroke:#444}.title{font-weight:bold}.head{font-size:24px;font-weight:bold}"
           ".dot{fill:#000;stroke:#fff;stroke-width:1.5}</style>\n"
           "<rect width=\"100%\" height=\"100%\" fill=\"#fff\"/>\n",
           f);
@@ -341,8 +346,19 @@ static void draw(FILE *f, const struct numbers *of)
     fputs("</svg>\n", f);
 }
 
-void write_picture(const char *path, const struct numbers *of)
+/* Whether bytes are a picture that this program made: the title stands near their start. */
+static int is_picture(struct bytes bytes)
 {
+    static const char first[] = "<svg xmlns=";
+    size_t start = bytes.length < NEAR ? bytes.length : NEAR;
+    return start >= sizeof first - 1 && !memcmp(bytes.at, first, sizeof first - 1) &&
+           memmem(bytes.at, start, title, sizeof title - 1);
+}
+
+void write_picture(const struct options *o, const struct numbers *of)
+{
+    const char *path = o->svg;
+    struct output out = check_output(o, path, NULL, is_picture);
     char *bytes = NULL;
     size_t length = 0;
     FILE *f = open_memstream(&bytes, &length);
@@ -352,6 +368,6 @@ void write_picture(const char *path, const struct numbers *of)
     if (fclose(f) != 0)
         file_fault("draw", path);
     const struct piece piece = {bytes, length};
-    store_at(path, &piece, 1);
+    write_output(&out, &piece, 1);
     free(bytes);
 }

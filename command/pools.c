@@ -1,6 +1,7 @@
 /* One reply for several files of one key: pool, the host's, and judge-pool, the owner's. */
 #include "codes.h"
 #include "commands.h"
+#include "output.h"
 #include "owner.h"
 #include "report.h"
 #include "tell.h"
@@ -13,23 +14,35 @@
 /* A pooled reply has a front, and for each file its id, the token and the record. */
 enum { FRONT_BYTES = LEGBARO_POOLED_BYTES(0), FILE_BYTES = LEGBARO_POOLED_BYTES(1) - FRONT_BYTES };
 
+/* Whether bytes are a pooled reply: its own length is its first field. */
+static int is_pooled(struct bytes bytes)
+{
+    return bytes.length >= LEGBARO_POOLED_BYTES(LEGBARO_LEAST_POOLED) &&
+           bytes.length <= LEGBARO_POOLED_BYTES(LEGBARO_MOST_POOLED) &&
+           (bytes.length - FRONT_BYTES) % FILE_BYTES == 0 &&
+           number_at(bytes.at, 2) == bytes.length - 2;
+}
+
 int run_pool(const struct options *o)
 {
-    struct bytes replies = room((size_t)o->count * LEGBARO_REPLY_BYTES), pooled = room(LEGBARO_POOLED_BYTES((size_t)o->count));
+    size_t count = (size_t)o->count;
+    struct bytes replies = room(count * LEGBARO_REPLY_BYTES),
+                 pooled = room(LEGBARO_POOLED_BYTES(count));
     const struct piece piece = {pooled.at, pooled.length};
-    const char *out = o->out ? o->out : path_in(o->folder, "pooled");
-    for (int i = 0; i < o->count; i++) {
-        struct bytes reply = map_whole(o->words[i], LEGBARO_REPLY_BYTES, "a reply", "Prove again.");
-        memcpy(replies.at + (size_t)i * LEGBARO_REPLY_BYTES, reply.at, reply.length);
+    for (size_t i = 0; i < count; i++) {
+        struct bytes reply =
+            small_whole(o->words[i], LEGBARO_REPLY_BYTES, "a reply", "Prove again.");
+        memcpy(replies.at + i * LEGBARO_REPLY_BYTES, reply.at, reply.length);
     }
+    struct output out = check_output(o, o->out, "pooled", is_pooled);
     uint64_t result = legbaro_pool(LENT(replies), LENT(pooled));
     if (result != LEGBARO_OK)
         turn_away(result, text("the %d replies", o->count));
-    store_at(out, &piece, 1);
+    write_output(&out, &piece, 1);
     field("files", (uint64_t)o->count);
-    field_text("file", out);
+    field_text("file", out.path);
     say("%d replies are one of %zu bytes", o->count, pooled.length);
-    say("next: send %s to the owner", out);
+    say("next: send %s to the owner", out.path);
     return ended(DONE);
 }
 
@@ -106,7 +119,7 @@ int run_judge_pool(const struct options *o)
     struct bytes none = room(0);
     refuse_without_right(legbaro_judge_pool(o->role, LENT(none), LENT(none), LENT(none)), o);
     struct bytes master = read_master(o);
-    struct bytes reply = map_whole(o->words[0], LEGBARO_POOLED_BYTES((uint64_t)o->count - 1), "a reply for so many files",
+    struct bytes reply = small_whole(o->words[0], LEGBARO_POOLED_BYTES((uint64_t)o->count - 1), "a reply for so many files",
                                    "Ask the host to send it again, and name each of its files. No draw is closed.");
     struct pool pool = open_pool(o->count - 1, o->words + 1);
     order(&pool, reply);
