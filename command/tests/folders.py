@@ -105,7 +105,7 @@ class World:
     def __init__(self, runner, lacks):
         self.runner, self.lacks, self.root = runner, lacks, runner.root
         self.files, self.seen, self.checked, self.killed = [], {}, 0, 0
-        self.trace = []
+        self.trace, self.receipts, self.halves = [], [], []  # receipts and half applied changes that were seen
         self.key = None
         self.snap = {}
 
@@ -225,6 +225,7 @@ class World:
         results = [(host,) + outcome(host) for host in f.hosts]
         status, killed = self.command(words, [f.host_at], way)
         if killed:
+            self.halves += [self.snap[f.host_at + "/applying"]] if f.host_at + "/applying" in self.snap else []
             f.hosts = distinct(f.hosts + [after for _, _, after in results])
             self.check_torn_host(f)
             return status, True
