@@ -32,25 +32,67 @@ static void needs_right(const struct options *o)
     refuse_without_right(legbaro_cause(o->role, LENT(none), LENT(none), LENT(none)), o);
 }
 
+static void tell_drawn(const struct options *o, const struct owner *owner)
+{
+    uint64_t token = in_card(owner->card, LEGBARO_CARD_OPEN, 4), left = in_card(owner->card, LEGBARO_CARD_TOKENS, 4) - token;
+    field("token", token);
+    field("left", left);
+    field_text("file", path_in(o->folder, "message"));
+    say(o->again ? "the message of token %" PRIu64 " is written again, %" PRIu64 " %s left"
+                 : "token %" PRIu64 " is drawn, %" PRIu64 " %s left",
+        token, left, left == 1 ? "is" : "are");
+    tell_audit(owner->card);
+    say("next: send %s to the host, who runs 'legbaro prove message', and judge the reply", path_in(o->folder, "message"));
+}
+
+/* A plan that allows every draw at the first minute of a day. */
+static struct plan any_time(void)
+{
+    struct plan plan = {.year = 2000, .month = 1, .day = 1};
+    for (size_t at = 0; at < sizeof plan.bytes; at += 4)
+        put_number(plan.bytes + at + 2, 2, LEGBARO_DAY_MINUTES - 1);
+    return plan;
+}
+
+/* Writes the message of the open token once more. It depends on the key and on numbers of the card that no draw changes, so the draw is
+ * made on a copy of the card as it was before. The card in the folder stays as it is. */
+static int draw_again(const struct options *o, const struct owner *owner)
+{
+    struct plan plan = any_time();
+    struct bytes card = copy_of(owner->card), message = room(LEGBARO_MESSAGE_BYTES);
+    const struct piece piece = {message.at, message.length};
+    uint64_t open = in_card(card, LEGBARO_CARD_OPEN, 4);
+    if (!open)
+        turn_away(LEGBARO_NONE_OPEN, path_in(o->folder, "card"));
+    put_number(card.at + LEGBARO_CARD_NEXT, 4, open);
+    put_number(card.at + LEGBARO_CARD_OPEN, 4, 0);
+    uint64_t result = legbaro_draw(o->role, LENT(owner->master), LENT(card), LENT(message), plan.bytes, sizeof plan.bytes, plan.year,
+                                   plan.month, plan.day, plan.minute);
+    if (result != LEGBARO_OK)
+        turn_away(result, path_in(o->folder, "card"));
+    settle(owner);
+    store(&owner->folder, "message", 0600, &piece, 1);
+    tell_drawn(o, owner);
+    return ended(DONE);
+}
+
 int run_draw(const struct options *o)
 {
     needs_right(o);
-    struct plan plan = read_plan(o);
+    struct plan plan = o->again ? any_time() : read_plan(o);
     struct owner owner = open_owner(o, 1);
     struct bytes message = room(LEGBARO_MESSAGE_BYTES);
     const struct piece piece = {message.at, message.length};
+    if (o->again)
+        return draw_again(o, &owner);
     uint64_t result = legbaro_draw(o->role, LENT(owner.master), LENT(owner.card), LENT(message), plan.bytes, sizeof plan.bytes, plan.year,
                                    plan.month, plan.day, plan.minute);
     if (result != LEGBARO_OK)
         refuse_draw(o, &plan, result);
+    settle(&owner);
     prepare(&owner.folder, "message", 0600, &piece, 1);
-    store_card(&owner.folder, owner.card);
-    uint64_t token = in_card(owner.card, LEGBARO_CARD_OPEN, 4), left = in_card(owner.card, LEGBARO_CARD_TOKENS, 4) - token;
-    field("token", token);
-    field("left", left);
-    field_text("file", path_in(o->folder, "message"));
-    say("token %" PRIu64 " is drawn, %" PRIu64 " are left", token, left);
-    say("next: send %s to the host, who runs 'legbaro prove message', and judge the reply", path_in(o->folder, "message"));
+    store_card(&owner);
+    tell_drawn(o, &owner);
     return ended(DONE);
 }
 
@@ -93,22 +135,24 @@ static void tell_cause(const char *before, uint64_t cause, const char *next)
 int run_cause(const struct options *o)
 {
     needs_right(o);
-    struct bytes reply = map_file(o->words[0]);
+    struct bytes reply = read_small(o->words[0], MOST_TEXT_BYTES, "a reply");
     struct owner owner = open_owner(o, 1);
     uint64_t cause = cause_of(o, &owner, reply);
     tell_cause("", cause, cause_next(cause));
     return ended(cause ? REJECTED : DONE);
 }
 
-/* The verdict is told before the card closes the draw: wherever the command stops, it was told or can be had again. */
-int run_judge(const struct options *o)
+/* A reply that was cut, mixed up or made from an older table says nothing of the blocks. The draw stays open for another one. */
+static void refuse_unjudged(const struct options *o, uint64_t cause)
 {
-    needs_right(o);
-    struct bytes reply = map_file(o->words[0]);
-    struct owner owner = open_owner(o, 1);
-    uint64_t token = in_card(owner.card, LEGBARO_CARD_OPEN, 4), cause = cause_of(o, &owner, reply);
-    uint64_t result = legbaro_judge(o->role, LENT(owner.master), LENT(owner.card), LENT(reply));
-    enum status status = result == LEGBARO_OK ? DONE : REJECTED;
+    about(o->words[0]);
+    field("cause", cause);
+    refuse(TURNED_AWAY, text("%s The draw stays open; 'legbaro judge --close' rejects the reply and closes it.", cause_next(cause)),
+           "%s is not judged: cause %" PRIu64 ", %s", input_words(o->words[0]), cause, cause_words(cause));
+}
+
+static void tell_verdict(const struct owner *owner, enum status status, uint64_t token, uint64_t cause)
+{
     field("token", token);
     field_text("verdict", status == DONE ? "accepted" : "rejected");
     if (status == DONE)
@@ -116,8 +160,26 @@ int run_judge(const struct options *o)
     else
         tell_cause("REJECTED: ", cause,
                    cause == LEGBARO_CAUSE_DIGEST ? cause_next(cause)
-                                                 : "The draw is closed: draw again, and ask 'legbaro cause' before judging.");
+                                                 : "The draw is closed: draw again, and judge without --close.");
+    tell_audit(owner->card);
+}
+
+/* The card that closes the draw is written before the verdict is told, and takes its place after: a full disk shows before the verdict,
+ * and wherever the command stops the verdict was told or can be had again. */
+int run_judge(const struct options *o)
+{
+    needs_right(o);
+    struct bytes reply = read_small(o->words[0], MOST_TEXT_BYTES, "a reply");
+    struct owner owner = open_owner(o, 1);
+    uint64_t token = in_card(owner.card, LEGBARO_CARD_OPEN, 4), cause = cause_of(o, &owner, reply);
+    if (cause && cause != LEGBARO_CAUSE_DIGEST && !o->close)
+        refuse_unjudged(o, cause);
+    uint64_t result = legbaro_judge(o->role, LENT(owner.master), LENT(owner.card), LENT(reply));
+    enum status status = result == LEGBARO_OK ? DONE : REJECTED;
+    settle(&owner);
+    prepare_card(&owner);
+    tell_verdict(&owner, status, token, cause);
     ended(status);
-    store_card(&owner.folder, owner.card);
+    place_card(&owner);
     return (int)status;
 }

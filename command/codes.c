@@ -17,7 +17,8 @@ static const struct words codes[] = {
     {"a record does not open",
      "Fetch the table again from that record on. Where that does not help, it is the table of another file or of another "
      "change, or the key is another one."},
-    {"a token is drawn and not judged", "Send 'message' to the host, and judge the reply first: 'legbaro judge REPLY'."},
+    {"a token is drawn and not judged", "Send 'message' to the host, and judge the reply first: 'legbaro judge REPLY'. 'legbaro draw --again' "
+                                        "writes 'message' again."},
     {"no token is drawn", "Draw one first: 'legbaro draw'. A reply that was judged is not judged again."},
     {"the counter is at its most", "Set up a new file, under another id: this one takes no further change."},
     {"the reply does not prove possession", "'legbaro cause REPLY' before judging tells why."},

@@ -1,7 +1,7 @@
 /* See fetched.h. */
 #include "fetched.h"
+#include "progress.h"
 #include "report.h"
-#include "work.h"
 
 #include "legbaro.h"
 
@@ -20,15 +20,17 @@ static int is_there(const char *path)
  * sent. */
 static void refuse_unapplied(const struct owner *owner, const char *path, uint64_t counter)
 {
-    const char *change = path_in(owner->folder.path, "change");
+    const char *change = path_in(owner->folder.path, "change"), *prepared = path_in(owner->folder.path, "change.new");
     struct change last;
-    if (!is_there(change) || !peek_change(change, &last) || last.counter != in_card(owner->card, LEGBARO_CARD_COUNTER, 8) ||
+    int stopped = !is_there(change) && is_there(prepared);
+    if ((!stopped && !is_there(change)) || !peek_change(stopped ? prepared : change, &last) || last.counter != in_card(owner->card, LEGBARO_CARD_COUNTER, 8) ||
         last.counter == counter || last.counter_before != counter)
         return;
     about(path);
     refuse(TURNED_AWAY,
-           text("Send %s to the host, who runs 'legbaro apply%s change', unless that is done; then fetch the host's files again.", change,
-                last.asked ? " --committed" : ""),
+           text("%s %s%s to the host, who runs 'legbaro apply%s change', unless that is done; then fetch the host's files again.",
+                stopped ? "Run 'legbaro show': it finishes the command that was stopped. Then send" : "Send", change,
+                last.asked ? " and 'committed' beside it" : "", last.asked ? " --committed committed" : ""),
            "%s is of counter %" PRIu64 ", and the change at counter %" PRIu64 " is made and not in place there", path, counter,
            last.counter);
 }

@@ -1,6 +1,7 @@
 /* See options.h. */
 #include "options.h"
 #include "files.h"
+#include "numbers.h"
 #include "report.h"
 
 #include "legbaro.h"
@@ -26,6 +27,7 @@ static const struct option {
     {"svg", TEXT, offsetof(struct options, svg)},
     {"lost", TEXT, offsetof(struct options, lost)},
     {"lost-parity", TEXT, offsetof(struct options, lost_parity)},
+    {"committed", TEXT, offsetof(struct options, committed)},
     {"role", ROLE, offsetof(struct options, role)},
     {"mark", MARK, offsetof(struct options, mark)},
     {"version", NUMBER, offsetof(struct options, version)},
@@ -40,7 +42,9 @@ static const struct option {
     {"json", FLAG, offsetof(struct options, json)},
     {"progress", FLAG, offsetof(struct options, progress)},
     {"check", FLAG, offsetof(struct options, check)},
-    {"committed", FLAG, offsetof(struct options, committed)},
+    {"force", FLAG, offsetof(struct options, force)},
+    {"again", FLAG, offsetof(struct options, again)},
+    {"close", FLAG, offsetof(struct options, close)},
 };
 
 static const char *const see = "'legbaro help' and legbaro(1) tell the commands and their options.";
@@ -140,8 +144,9 @@ struct options read_options(const struct command *command, int count, char **giv
         else
             i = read_option(command, &o, i, count, given);
     if (o.count < command->least || o.count > command->most)
-        refuse(WRONG_USE, see, "'legbaro %s' takes %s, and was given %d words", command->name,
-               *command->words ? command->words : "no words beside its options", o.count);
+        refuse(WRONG_USE, see, "'legbaro %s' takes %s, and was given %s", command->name,
+               *command->words ? command->words : "no words beside its options",
+               counted((uint64_t)o.count, "word", "words"));
     return o;
 }
 

@@ -1,6 +1,8 @@
 /* See tell.h. */
 #include "tell.h"
 #include "codes.h"
+#include "numbers.h"
+#include "owner.h"
 #include "report.h"
 
 #include "legbaro.h"
@@ -38,4 +40,41 @@ void tell_totals(struct bytes totals)
     field("turns", turns);
     field("hashes", hashes);
     say("work: %" PRIu64 " turns of the permutation, %" PRIu64 " hashes of blocks", turns, hashes);
+}
+
+/* The least and the most blocks that an audit looks at: the hashes of a proof, by the planning sheet. */
+static struct sheet audit_of(struct bytes card)
+{
+    const struct numbers of = {
+        .block_bytes = in_card(card, LEGBARO_CARD_BLOCK_BYTES, 2),
+        .rows = in_card(card, LEGBARO_CARD_ROWS, 4),
+        .positions = in_card(card, LEGBARO_CARD_POSITIONS, 2),
+        .tokens = in_card(card, LEGBARO_CARD_TOKENS, 4),
+        .blocks = in_card(card, LEGBARO_CARD_BLOCKS, 4),
+        .damaged = 1,
+    };
+    struct sheet sheet;
+    sheet_of(&of, &sheet);
+    return sheet;
+}
+
+void tell_audit(struct bytes card)
+{
+    struct sheet sheet = audit_of(card);
+    uint64_t blocks = in_card(card, LEGBARO_CARD_BLOCKS, 4);
+    field("least-blocks", sheet.least);
+    field("most-blocks", sheet.most);
+    if (sheet.least == blocks)
+        say("an audit looks at every block");
+    else if (sheet.least == sheet.most)
+        say("an audit looks at %" PRIu64 " of %" PRIu64 " block%s", sheet.least, blocks, blocks == 1 ? "" : "s");
+    else
+        say("an audit looks at %" PRIu64 " to %" PRIu64 " of %" PRIu64 " block%s", sheet.least, sheet.most, blocks, blocks == 1 ? "" : "s");
+    if (sheet.least)
+        return;
+    const char *fix = text("legbaro positions --positions %" PRIu64 " --rows %" PRIu64 " --blocks %" PRIu64,
+                           in_card(card, LEGBARO_CARD_POSITIONS, 2), in_card(card, LEGBARO_CARD_ROWS, 4), blocks);
+    field_text("warning", text("an audit may look at no block at all; '%s' says how many positions to set up with", fix));
+    say("warning: an audit may look at no block at all, and is accepted then");
+    say("  '%s' says how many positions to set up with", fix);
 }

@@ -11,6 +11,9 @@ void refuse_limits(const struct options *options, uint64_t blocks);
 /* Ends the program where a result says that the role has no right. */
 void refuse_without_right(uint64_t result, const struct options *options);
 
+/* Says how many blocks an audit of a card's file looks at, and warns where it may be none. */
+void tell_audit(struct bytes card);
+
 /* Tells turns and hashes. */
 void tell_totals(struct bytes totals);
 
