@@ -154,7 +154,7 @@ class World:
         self.checked, self.killed = self.checked + 1, self.killed + killed
         now = self.look()
         changed = sorted(name for name in before.keys() | now.keys() if before.get(name) != now.get(name))
-        need(now["keys/key"] == self.key, "the key has changed")
+        need(now.get("keys/key") == self.key and os.stat(self.path("keys/key")).st_mode & 0o777 == 0o600, "the key has changed")
         if not killed and status >= 2:
             lax = tuple(side for side in ("owner", "host") if side in self.lacks)
             need(not [name for name in changed if name.split("/")[1] not in lax], "a refused command changed", *changed)
