@@ -30,6 +30,18 @@ static struct held map_held(const char *folder, struct bytes message)
     return held;
 }
 
+/* Refuses a message for another number of blocks than will stand when a change that is half in place is
+ * there. */
+static void refuse_other_size(const struct host *host, struct bytes message, const char *path)
+{
+    uint64_t n = number_at(message.at + BLOCKS, 4), bytes = number_at(message.at + BLOCK_BYTES, 2);
+    about(path);
+    if (host->half && (n != host->stands.blocks_after || bytes != host->stands.block_bytes))
+        refuse(TURNED_AWAY, "Ask the owner for the message drawn last. 'legbaro apply' puts the change in place.",
+               "by %s the file has %" PRIu64 " blocks, and with the change that is half in place %" PRIu64,
+               input_words(path), n, host->stands.blocks_after);
+}
+
 /* Whether bytes are a reply: its own length is its first field. */
 static int is_reply(struct bytes bytes)
 {
@@ -55,6 +67,8 @@ int run_prove(const struct options *o)
     struct output out = check_output(o, o->out, "reply", is_reply);
     struct host host = open_host(o->folder, 0, 0);
     refuse_other_file(&host, message.at + ID, o->words[0]);
+    refuse_other_size(&host, message, o->words[0]);
+    complete(&host);
     struct held held = map_held(o->folder, message);
     uint64_t result = legbaro_prove(LENT(message), LENT(held.blocks), LENT(held.marks),
                                     LENT(held.table), LENT(reply), LENT(totals));
