@@ -161,14 +161,13 @@ static int cut_back(const struct host *host, const char *name, uint64_t width)
     return close(file) == 0;
 }
 
-/* Where a command stopped while it added blocks, what stands is whole. */
+/* Where a command stopped while it added blocks, what stands is whole, and says how long `blocks` is.
+ * A damaged `adding` is undone in the same way: else the blocks after the last would stay for good. */
 static void undo_adding(const struct host *host)
 {
-    struct change c;
     if (!is_in(&host->folder, "adding"))
         return;
-    if (peek_change(path_in(host->folder.path, "adding"), &c) && follows(host, &c))
-        must(cut_back(host, "blocks", c.block_bytes), host, "blocks");
+    must(cut_back(host, "blocks", host->stands.block_bytes), host, "blocks");
     take_away(&host->folder, "adding");
 }
 

@@ -105,7 +105,7 @@ class World:
     def __init__(self, runner, lacks):
         self.runner, self.lacks, self.root = runner, lacks, runner.root
         self.files, self.seen, self.checked, self.killed = [], {}, 0, 0
-        self.trace = []
+        self.trace, self.receipts, self.halves = [], [], []  # receipts and half applied changes that were seen
         self.key = None
         self.snap = {}
 
@@ -154,7 +154,7 @@ class World:
         self.checked, self.killed = self.checked + 1, self.killed + killed
         now = self.look()
         changed = sorted(name for name in before.keys() | now.keys() if before.get(name) != now.get(name))
-        need(now["keys/key"] == self.key, "the key has changed")
+        need(now.get("keys/key") == self.key and os.stat(self.path("keys/key")).st_mode & 0o777 == 0o600, "the key has changed")
         if not killed and status >= 2:
             lax = tuple(side for side in ("owner", "host") if side in self.lacks)
             need(not [name for name in changed if name.split("/")[1] not in lax], "a refused command changed", *changed)
@@ -225,6 +225,7 @@ class World:
         results = [(host,) + outcome(host) for host in f.hosts]
         status, killed = self.command(words, [f.host_at], way)
         if killed:
+            self.halves += [self.snap[f.host_at + "/applying"]] if f.host_at + "/applying" in self.snap else []
             f.hosts = distinct(f.hosts + [after for _, _, after in results])
             self.check_torn_host(f)
             return status, True
