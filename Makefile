@@ -29,7 +29,7 @@ SHARED := $(wildcard tests/second_*.c) $(addprefix tests/,book.c calls.c files.c
 command: $(OUT)/legbaro
 
 $(OUT)/legbaro: $(wildcard command/*.c command/*.h) $(LIB)/liblegbaro.a $(HEADERS)
-	@tools/needs cc
+	@tools/needs cc zlib
 	@mkdir -p $(OUT)
 	$(COMPILE) $(filter %.c,$^) -o $@ $(LINK) -lm -l:libz.a
 

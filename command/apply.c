@@ -9,8 +9,8 @@
 #include <inttypes.h>
 #include <string.h>
 
-/* Refuses a file of the host that is not as long as what stands. Where a damaged `applying` was being
- * put in place, it may be longer. */
+/* Refuses a file of the host that is not as long as what stands. Where a damaged `applying` was
+ * being put in place, it may be longer. */
 static void refuse_size(const struct host *host, const char *name, uint64_t length)
 {
     static const char *const lost =
@@ -20,7 +20,8 @@ static void refuse_size(const struct host *host, const char *name, uint64_t leng
         map_whole(path, length, "what stands", lost);
 }
 
-/* Refuses a change that does not follow what stands, and files that are not as long as what stands. */
+/* Refuses a change that does not follow what stands, and files that are not as long as what stands.
+ */
 static void refuse_unfit(const struct host *host, const struct change *c, const char *path)
 {
     const struct change *s = &host->stands;
@@ -53,8 +54,10 @@ static void tell_stands(const struct change *c)
 static int go_on(const struct options *o)
 {
     if (o->committed || o->check)
-        refuse(WRONG_USE, "Write 'legbaro apply --check CHANGE' or 'legbaro apply --committed RECEIPT CHANGE'.",
-               "the change that %s is about is missing", o->check ? "--check" : "--committed");
+        refuse(
+            WRONG_USE,
+            "Write 'legbaro apply --check CHANGE' or 'legbaro apply --committed RECEIPT CHANGE'.",
+            "the change that %s is about is missing", o->check ? "--check" : "--committed");
     struct host host = open_host(o->folder, 0, 0);
     if (host.begun)
         tell_stands(&host.stands);
@@ -82,11 +85,12 @@ static int tell_in_place(const struct host *host, const struct change *c, const 
                ", and another table",
                path, c->counter);
     if (other)
-        refuse(TURNED_AWAY,
-               "The host has lost what it was to keep: put the file back from a copy first. Nothing "
-               "has changed.",
-               "%s is the change in place by its table, and %s has other %s than it brought", path,
-               path_in(host->folder.path, other), other);
+        refuse(
+            TURNED_AWAY,
+            "The host has lost what it was to keep: put the file back from a copy first. Nothing "
+            "has changed.",
+            "%s is the change in place by its table, and %s has other %s than it brought", path,
+            path_in(host->folder.path, other), other);
     say("the change is in place already: file %s has %" PRIu64 " blocks at counter %" PRIu64,
         id_words(c->id), c->blocks_after, c->counter);
     return ended(DONE);
@@ -109,13 +113,16 @@ static void needs_receipt(const struct options *o, const struct change *c, const
     if (!c->asked)
         return;
     if (!o->committed)
-        refuse(TURNED_AWAY,
-               text("Tell the owner that it is here whole. The commit makes the file 'committed': with "
-                    "it run 'legbaro apply --committed committed %s'.",
-                    path),
-               "%s is asked, and stands only when the owner has committed it", path);
+        refuse(
+            TURNED_AWAY,
+            text(
+                "Tell the owner that it is here whole. The commit makes the file 'committed': with "
+                "it run 'legbaro apply --committed committed %s'.",
+                path),
+            "%s is asked, and stands only when the owner has committed it", path);
     if (!check_receipt(o->committed, c, path))
-        say("warning: %s has no checksum, since the owner no longer had the change: look whether %s is "
+        say("warning: %s has no checksum, since the owner no longer had the change: look whether "
+            "%s is "
             "the one that was sent last",
             input_words(o->committed), path);
 }

@@ -102,8 +102,8 @@ const char *differs(const struct host *host, const struct change *c)
 
 /* ---- The first change ---- */
 
-/* What was here before is the change's own, left by a command that stopped, or someone else's. Returns
- * whether it was here. */
+/* What was here before is the change's own, left by a command that stopped, or someone else's.
+ * Returns whether it was here. */
 static int refuse_others(const struct host *host, const char *name, struct bytes bytes)
 {
     const char *path = path_in(host->folder.path, name);
@@ -187,8 +187,8 @@ static void add_blocks(const struct host *host, const struct change *c)
 
 /* ---- Further changes ---- */
 
-/* Writes bytes of each block of a change into a file that has so many for each: the blocks themselves,
- * or their marks. */
+/* Writes bytes of each block of a change into a file that has so many for each: the blocks
+ * themselves, or their marks. */
 static void write_each(const struct host *host, const char *name, const struct change *c,
                        struct bytes bytes, uint64_t width)
 {
@@ -199,7 +199,8 @@ static void write_each(const struct host *host, const char *name, const struct c
         uint64_t block = number_at(c->items.at + i * CHANGE_ITEM_BYTES, 4);
         done = write_at(file, (block - 1) * width, bytes.at + i * width, width);
     }
-    done = done && resize_file(file, c->blocks_after * width) && sync_file(file) && close(file) == 0;
+    done =
+        done && resize_file(file, c->blocks_after * width) && sync_file(file) && close(file) == 0;
     must(done, host, name);
 }
 
@@ -235,16 +236,17 @@ void put_in_place(struct host *host, const struct change *change)
         rest.blocks = room(0);
     }
     prepare(&host->folder, "applying", 0666, change_pieces(&rest), CHANGE_PIECES);
-    decided("The change is kept as 'applying'. Mend what is wrong, and run 'legbaro apply' again: it "
-            "goes on from there.");
+    decided(
+        "The change is kept as 'applying'. Mend what is wrong, and run 'legbaro apply' again: it "
+        "goes on from there.");
     place(&host->folder, "applying");
     put_applying(host, &rest);
 }
 
 /* ---- Opening ---- */
 
-/* Whether `applying` is whole, and is what follows what stands or stands already. Blocks that it leaves
- * out are in `blocks`. */
+/* Whether `applying` is whole, and is what follows what stands or stands already. Blocks that it
+ * leaves out are in `blocks`. */
 static int can_go_on(const struct host *host, struct change *c)
 {
     struct stat status;
@@ -296,10 +298,11 @@ void refuse_damaged(const struct host *host)
 {
     const char *path = path_in(host->folder.path, "applying");
     about(path);
-    refuse(TURNED_AWAY,
-           "Ask the owner for the change that follows what stands, and run 'legbaro apply' with it: "
-           "the damaged one is moved aside then. Nothing has changed.",
-           "%s, a change that is half in place, is damaged or does not follow what stands", path);
+    refuse(
+        TURNED_AWAY,
+        "Ask the owner for the change that follows what stands, and run 'legbaro apply' with it: "
+        "the damaged one is moved aside then. Nothing has changed.",
+        "%s, a change that is half in place, is damaged or does not follow what stands", path);
 }
 
 void refuse_other_file(const struct host *host, const uint8_t *id, const char *path)

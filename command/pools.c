@@ -59,7 +59,8 @@ static void order(struct pool *pool, struct bytes reply)
 {
     for (int i = 0; i < pool->count; i++)
         for (int k = i; k < pool->count; k++)
-            if (!memcmp(reply.at + FRONT_BYTES + i * FILE_BYTES, pool->cards[k].at + LEGBARO_CARD_ID, LEGBARO_ID_BYTES)) {
+            if (!memcmp(reply.at + FRONT_BYTES + i * FILE_BYTES,
+                        pool->cards[k].at + LEGBARO_CARD_ID, LEGBARO_ID_BYTES)) {
                 struct folder folder = pool->folders[i];
                 struct bytes card = pool->cards[i];
                 pool->folders[i] = pool->folders[k];
@@ -76,17 +77,18 @@ static struct pool open_pool(int count, char **paths)
     for (int i = 0; i < count; i++) {
         for (int k = 0; k < i; k++)
             if (!strcmp(paths[i], paths[k]))
-                refuse(TURNED_AWAY, code_next(LEGBARO_BAD_POOL), "%s is named twice (code %d)", paths[i], LEGBARO_BAD_POOL);
+                refuse(TURNED_AWAY, code_next(LEGBARO_BAD_POOL), "%s is named twice (code %d)",
+                       paths[i], LEGBARO_BAD_POOL);
         pool.folders[i] = lock_folder(paths[i], 0);
         pool.cards[i] = read_card(paths[i]);
         settle(&pool.folders[i], pool.cards[i]);
         if (!in_card(pool.cards[i], LEGBARO_CARD_OPEN, 4)) {
             about(path_in(paths[i], "card"));
             field("code", LEGBARO_NONE_OPEN);
-            refuse(
-                TURNED_AWAY,
-                "Draw for each file first. Where a command stopped while a pool was judged, judge the open ones by their single replies.",
-                "%s: no token is drawn (code %d)", path_in(paths[i], "card"), LEGBARO_NONE_OPEN);
+            refuse(TURNED_AWAY,
+                   "Draw for each file first. Where a command stopped while a pool was judged, "
+                   "judge the open ones by their single replies.",
+                   "%s: no token is drawn (code %d)", path_in(paths[i], "card"), LEGBARO_NONE_OPEN);
         }
     }
     return pool;
@@ -119,8 +121,9 @@ int run_judge_pool(const struct options *o)
     struct bytes none = room(0);
     refuse_without_right(legbaro_judge_pool(o->role, LENT(none), LENT(none), LENT(none)), o);
     struct bytes master = read_master(o);
-    struct bytes reply = small_whole(o->words[0], LEGBARO_POOLED_BYTES((uint64_t)o->count - 1), "a reply for so many files",
-                                   "Ask the host to send it again, and name each of its files. No draw is closed.");
+    struct bytes reply = small_whole(
+        o->words[0], LEGBARO_POOLED_BYTES((uint64_t)o->count - 1), "a reply for so many files",
+        "Ask the host to send it again, and name each of its files. No draw is closed.");
     struct pool pool = open_pool(o->count - 1, o->words + 1);
     order(&pool, reply);
     struct bytes cards = joined(&pool);
@@ -133,7 +136,8 @@ int run_judge_pool(const struct options *o)
     if (status == DONE)
         say("ACCEPTED: the reply fits the tokens drawn for %d files, taken together", pool.count);
     else
-        say("REJECTED: the reply does not fit the tokens drawn for %d files\nnext: draw for each file, and judge single replies to learn "
+        say("REJECTED: the reply does not fit the tokens drawn for %d files\nnext: draw for each "
+            "file, and judge single replies to learn "
             "which it is",
             pool.count);
     ended(status);
