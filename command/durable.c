@@ -209,6 +209,7 @@ void move_aside(const struct folder *folder, const char *name)
     if (result != 0)
         file_fault("move", path_in(folder->path, name));
     sync_folder(folder);
+    field_text("aside", path_in(folder->path, aside));
     say("%s is moved aside: it is %s now", path_in(folder->path, name),
         path_in(folder->path, aside));
 }

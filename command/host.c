@@ -148,12 +148,12 @@ static int cut_back(const struct host *host, const char *name, uint64_t width)
 {
     struct stat status;
     uint64_t length = host->stands.blocks_after * width;
+    if (fstatat(host->folder.at, name, &status, 0) != 0)
+        return 0;
+    if ((uint64_t)status.st_size <= length)
+        return 1;
     int file = open_in(host, name);
-    if (fstat(file, &status) != 0)
-        return 0;
-    if ((uint64_t)status.st_size > length && (!resize_file(file, length) || !sync_file(file)))
-        return 0;
-    return close(file) == 0;
+    return resize_file(file, length) && sync_file(file) && close(file) == 0;
 }
 
 /* Where a command stopped while it added blocks, what stands is whole. */
@@ -170,8 +170,8 @@ static void undo_adding(const struct host *host)
 /* Writes blocks after the last; a fault leaves what stands. */
 static void add_blocks(const struct host *host, const struct change *c)
 {
-    store(&host->folder, "adding", 0666, header_piece(c), 1);
     int file = open_in(host, "blocks");
+    store(&host->folder, "adding", 0666, header_piece(c), 1);
     progress_of("written", c->blocks.length);
     int whole = write_at(file, c->blocks_before * c->block_bytes, LENT(c->blocks)) &&
                 sync_file(file) && close(file) == 0;
