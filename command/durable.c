@@ -94,6 +94,8 @@ static void undo_prepared(void)
 {
     for (; prepared && !placed; prepared = prepared->next)
         unlinkat(prepared->folder, prepared->name, 0);
+    if (!placed)
+        undo_folder();
 }
 
 /* What an earlier command prepared does not count. */

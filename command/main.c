@@ -55,7 +55,7 @@ static int help(void)
     for (int i = 0; i < COMMANDS; i++)
         printf("  %-15s %-15s %s\n", commands[i].name, commands[i].words, commands[i].purpose);
     puts("\nEvery command takes -C FOLDER, the owner's or the host's folder, and --json. The manual is legbaro(1).\n"
-         "Exit status: 0 done or accepted, 1 rejected, 2 turned away, 3 wrong use, 4 a file can't be read or written.");
+         "Exit status: 0 done or accepted, 1 rejected or parity does not agree, 2 refused, 3 wrong use, 4 a file can't be read or written.");
     return ended(DONE);
 }
 
