@@ -35,11 +35,13 @@ static struct held map_held(const char *folder, struct bytes message)
 static void refuse_other_size(const struct host *host, struct bytes message, const char *path)
 {
     uint64_t n = number_at(message.at + BLOCKS, 4), bytes = number_at(message.at + BLOCK_BYTES, 2);
+    int stopped = host->half || (host->begun && is_in(&host->folder, "adding"));
     about(path);
-    if (host->half && (n != host->stands.blocks_after || bytes != host->stands.block_bytes))
+    if (stopped && (n != host->stands.blocks_after || bytes != host->stands.block_bytes))
         refuse(TURNED_AWAY, "Ask the owner for the message drawn last. 'legbaro apply' puts the change in place.",
-               "by %s the file has %" PRIu64 " blocks, and with the change that is half in place %" PRIu64,
-               input_words(path), n, host->stands.blocks_after);
+               "by %s the file has %" PRIu64 " blocks, and %s %" PRIu64, input_words(path), n,
+               host->half ? "with the change that is half in place" : "what stands has",
+               host->stands.blocks_after);
 }
 
 /* Whether bytes are a reply: its own length is its first field. */
