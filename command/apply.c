@@ -120,7 +120,9 @@ static void needs_receipt(const struct options *o, const struct change *c, const
                 "it run 'legbaro apply --committed committed %s'.",
                 path),
             "%s is asked, and stands only when the owner has committed it", path);
-    if (!check_receipt(o->committed, c, path))
+    int known = check_receipt(o->committed, c, path);
+    field("checksum_known", (uint64_t)known);
+    if (!known)
         say("warning: %s has no checksum, since the owner no longer had the change: look whether "
             "%s is "
             "the one that was sent last",

@@ -262,7 +262,7 @@ static void go_on(struct host *host, int mends)
     struct change c;
     host->damaged = !can_go_on(host, &c);
     if (host->damaged) {
-        if (!mends)
+        if (!mends || !host->begun)
             refuse_damaged(host);
         return;
     }
@@ -298,11 +298,13 @@ void refuse_damaged(const struct host *host)
 {
     const char *path = path_in(host->folder.path, "applying");
     about(path);
-    refuse(
-        TURNED_AWAY,
-        "Ask the owner for the change that follows what stands, and run 'legbaro apply' with it: "
-        "the damaged one is moved aside then. Nothing has changed.",
-        "%s, a change that is half in place, is damaged or does not follow what stands", path);
+    if (!host->begun)
+        refuse(TURNED_AWAY, "Put 'stands' back from a copy. Nothing has changed.",
+               "%s, a change that is half in place, is there, and 'stands' is missing", path);
+    refuse(TURNED_AWAY,
+           "Ask the owner for the change that follows what stands, and run 'legbaro apply' with "
+           "it: the damaged one is moved aside then. Nothing has changed.",
+           "%s, a change that is half in place, is damaged or does not follow what stands", path);
 }
 
 void refuse_other_file(const struct host *host, const uint8_t *id, const char *path)
