@@ -214,10 +214,12 @@ struct bytes map_whole(const char *path, uint64_t length, const char *what, cons
  * right: that of a regular file, and else `most` + 1. */
 static struct bytes read_up_to(const char *path, size_t most)
 {
-    struct stat status = {0};
+    struct stat status = {0}, standard;
     int file = is_standard_input(path) ? STDIN_FILENO : open_input(path, 0, &status);
     struct bytes bytes = room(most + 1);
     size_t done = 0;
+    if (file == STDIN_FILENO && fstat(file, &standard) == 0)
+        note_read(&standard);
     if (S_ISREG(status.st_mode) && (uint64_t)status.st_size > most) {
         bytes.length = (size_t)status.st_size;
         close(file);
