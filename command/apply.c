@@ -78,12 +78,18 @@ static int go_on(const struct options *o)
 }
 
 /* A change with the numbers of the one that stands: it is that one, or another. */
-static int tell_in_place(struct host *host, const struct change *c, const char *path)
+static int tell_in_place(const struct options *o, struct host *host, const struct change *c,
+                         const char *path)
 {
     if (host->damaged)
         refuse_damaged(host);
-    if (is_being_put(host, c))
+    if (is_being_put(host, c)) {
+        if (o->check) {
+            say("%s is half in place: 'legbaro apply' goes on with it", path);
+            return ended(DONE);
+        }
         complete(host);
+    }
     const char *other = differs(host, c);
     about(path);
     if (other && !strcmp(other, "table"))
@@ -99,6 +105,8 @@ static int tell_in_place(struct host *host, const struct change *c, const char *
                "has changed.",
                "%s is the change in place by its table, and %s has other %s than it brought", path,
                path_in(host->folder.path, other), other);
+    if (!o->check)
+        complete(host);
     say("the change is in place already: file %s has %" PRIu64 " blocks at counter %" PRIu64,
         id_words(c->id), c->blocks_after, c->counter);
     return ended(DONE);
@@ -142,7 +150,7 @@ int run_apply(const struct options *o)
     refuse_other_file(&host, c.id, path);
     tell_stands(&c);
     if (has_its_numbers(&host, &c))
-        return tell_in_place(&host, &c, path);
+        return tell_in_place(o, &host, &c, path);
     refuse_unfit(&host, &c, path);
     if (!host.half && !is_in(&host.folder, "adding"))
         refuse_sizes(&host);

@@ -30,18 +30,18 @@ static struct held map_held(const char *folder, struct bytes message)
     return held;
 }
 
-/* Refuses a message for another number of blocks than will stand when a change that is half in place is
- * there. */
+/* Refuses a message for another number of blocks than stand, or will stand when a change that is half in
+ * place is there. Where no command has stopped, the files themselves are looked at. */
 static void refuse_other_size(const struct host *host, struct bytes message, const char *path)
 {
     uint64_t n = number_at(message.at + BLOCKS, 4), bytes = number_at(message.at + BLOCK_BYTES, 2);
-    int stopped = host->half || (host->begun && is_in(&host->folder, "adding"));
     about(path);
+    int stopped = host->half || is_in(&host->folder, "adding");
     if (stopped && (n != host->stands.blocks_after || bytes != host->stands.block_bytes))
-        refuse(TURNED_AWAY, "Ask the owner for the message drawn last. 'legbaro apply' puts the change in place.",
-               "by %s the file has %" PRIu64 " blocks, and %s %" PRIu64, input_words(path), n,
-               host->half ? "with the change that is half in place" : "what stands has",
-               host->stands.blocks_after);
+        refuse(TURNED_AWAY, "A command was stopped here: run 'legbaro apply' first, with the change that was sent.",
+               "by %s the file has %" PRIu64 " blocks of %" PRIu64 " bytes, and here it has %" PRIu64
+               " of %" PRIu64,
+               input_words(path), n, bytes, host->stands.blocks_after, host->stands.block_bytes);
 }
 
 /* Whether bytes are a reply: its own length is its first field. */
