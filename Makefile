@@ -32,7 +32,7 @@ SHARED := $(wildcard tests/reference/*.[ch] tests/support/*.[ch])
 command: $(OUT)/legbaro
 
 $(OUT)/legbaro: $(wildcard command/*.c command/*.h) $(LIB)/liblegbaro.a $(HEADERS)
-	@tools/needs cc
+	@tools/needs cc zlib
 	@mkdir -p $(OUT)
 	$(COMPILE) $(filter %.c,$^) -o $@ $(LINK) -lm -l:libz.a
 
