@@ -114,7 +114,7 @@ static void take_old(struct making *m)
             *m->mark.at = mark;
         return;
     }
-    m->old = map_whole(m->o->old, m->change.block_bytes, "a block of this file", "Fetch it from the host again.");
+    m->old = small_whole(m->o->old, m->change.block_bytes, "a block of this file", "Fetch it from the host again.");
     if (m->mark.length) {
         needs_number(m->o->mark, "--mark, live or deleted, beside --old");
         *m->mark.at = m->o->mark > LEGBARO_DELETED ? 255 : (uint8_t)m->o->mark;
@@ -194,7 +194,7 @@ int run_append(const struct options *o)
 {
     struct making m = begin(o, APPEND);
     m.blocks =
-        map_whole(o->words[0], m.change.block_bytes, "a block of this file", "Give a file of one block; 'legbaro load' takes several.");
+        small_whole(o->words[0], m.change.block_bytes, "a block of this file", "Give a file of one block; 'legbaro load' takes several.");
     m.change.blocks_after++;
     return finish(&m);
 }
@@ -211,7 +211,7 @@ int run_load(const struct options *o)
 int run_update(const struct options *o)
 {
     struct making m = begin_with_block(o, UPDATE);
-    m.blocks = map_whole(o->words[1], m.change.block_bytes, "a block of this file", "Give a file of one block.");
+    m.blocks = small_whole(o->words[1], m.change.block_bytes, "a block of this file", "Give a file of one block.");
     m.change.items.at[4] = LEGBARO_LIVE;
     return finish(&m);
 }
