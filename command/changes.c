@@ -246,14 +246,14 @@ int run_batch(const struct options *o)
 typedef uint64_t ending(uint64_t role, uint8_t *card, size_t length);
 
 /* Ends what is pending by a call on the card. A commit leaves a receipt; a drop leaves none. */
-static int end_pending(const struct options *o, ending *call, const char *done, const char *next)
+static int end_pending(const struct options *o, ending *end, const char *done, const char *next)
 {
     struct bytes none = room(0);
-    refuse_without_right(call(o->role, LENT(none)), o);
+    refuse_without_right(end(o->role, LENT(none)), o);
     struct owner owner = open_owner(o, 0);
     struct bytes card = copy_of(owner.card);
-    uint64_t was = pending(card), result = call(o->role, LENT(owner.card));
-    int commits = call == legbaro_commit, known = 1;
+    uint64_t was = pending(card), result = end(o->role, LENT(owner.card));
+    int commits = end == legbaro_commit, known = 1;
     if (result != LEGBARO_OK)
         turn_away(result, path_in(o->folder, "card"));
     settle(&owner);

@@ -20,10 +20,11 @@
 /* ---- Memory ---- */
 
 /* What room gave out, one behind the other. */
-static union held {
+union held {
     union held *next;
     long double aligned;
-} * held;
+};
+static union held *held;
 
 static void give_back(void)
 {
@@ -34,7 +35,7 @@ static void give_back(void)
     }
 }
 
-static void no_memory(size_t length)
+static void __attribute__((noreturn)) no_memory(size_t length)
 {
     refuse(BAD_FILE, "Nothing has changed.", "there is no memory for %zu bytes", length);
 }
@@ -43,9 +44,9 @@ struct bytes room(size_t length)
 {
     union held *taken =
         length < SIZE_MAX - sizeof *taken ? calloc(1, sizeof *taken + length) : NULL;
-    struct bytes bytes = {(uint8_t *)(taken + 1), length};
     if (!taken)
         no_memory(length);
+    struct bytes bytes = {(uint8_t *)(taken + 1), length};
     if (!held)
         atexit(give_back);
     taken->next = held;
