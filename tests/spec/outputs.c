@@ -36,9 +36,11 @@ static void vector(const char *name, const uint8_t *bytes, size_t length)
 static void judged(uint64_t role, size_t master_length, size_t card_length, size_t reply_length)
 {
     uint8_t after[LEGBARO_TWO_STEP_CARD_BYTES];
-    uint64_t cause = legbaro_cause(role, master, master_length, card, card_length, reply, reply_length);
     memcpy(after, card, sizeof after);
-    uint64_t code = legbaro_judge(role, master, master_length, after, card_length, reply, reply_length);
+    uint64_t cause =
+        legbaro_cause(role, master, master_length, card, card_length, reply, reply_length);
+    uint64_t code =
+        legbaro_judge(role, master, master_length, after, card_length, reply, reply_length);
     printf("case %d", (int)role);
     print_bytes(master, master_length);
     print_bytes(card, card_length);
@@ -121,8 +123,8 @@ static void audit(int version, void (*show)(const char *, const uint8_t *, size_
                  plan, sizeof plan, 2026, 11, 17, 600);
     show("card-3", card, card_bytes);
     show("message", message, sizeof message);
-    legbaro_prove(message, sizeof message, blocks, sizeof blocks, marks, N * has_marks, table, TABLE,
-                  reply, LEGBARO_REPLY_BYTES, totals, sizeof totals);
+    legbaro_prove(message, sizeof message, blocks, sizeof blocks, marks, N * has_marks, table,
+                  TABLE, reply, LEGBARO_REPLY_BYTES, totals, sizeof totals);
     show("reply", reply, LEGBARO_REPLY_BYTES);
     show("totals-4", totals, sizeof totals);
 }
