@@ -1,6 +1,6 @@
 #!/usr/bin/env python3
-"""judge.py PAGE < outputs: judge and cause, written from docs/SPEC.md alone, compared with what
-the library gave (tests/spec/outputs.c); and the test vectors of the page (section 15), compared
+"""judge.py PAGE < outputs: judge and cause as docs/SPEC.md has them, compared with what the library
+gave (tests/spec/outputs.c); and the test vectors of the page (section 15), compared
 with the library and with scheme.py. The last line is 'N passed, M failed'."""
 import re
 import sys

@@ -1,4 +1,4 @@
-"""The scheme from docs/SPEC.md alone: keys, permutation, tokens and sealing (sections 2, 3, 4, 5
+"""The scheme as docs/SPEC.md has it: keys, permutation, tokens and sealing (sections 2, 3, 4, 5
 and 7), over hashlib and hmac, with ChaCha20 and Poly1305 by RFC 8439 here."""
 import hashlib
 import hmac
