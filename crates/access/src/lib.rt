@@ -4,17 +4,18 @@
 ghost use mathlib.Core.Path.{_≡_};
 ghost use mathlib.Core.List.{[], _∷_, List};
 ghost use Prim.Native.Nat.{ℕ};
+ghost use Rattle.counts.specs.Codes.{notPermitted};
 ghost use Rattle.scheme.specs.Roles as R;
 ghost use Rattle.scheme.specs.Changes as S;
 ghost use Rattle.scheme.specs.Asks as Q;
 ghost use Rattle.scheme.specs.Calls as C;
 ghost use Rattle.scheme.specs.Pools as P;
 ghost use Rattle.standard.specs.Standard.{standard};
-ghost use Rattle.changes.specs.Edits.{editOf};
-ghost use Rattle.access.specs.Deeds.{deedOf};
+ghost use Rattle.changes.specs.Kinds.{changeOf};
+ghost use Rattle.access.specs.Permissions.{permissionOf};
 
 // What a call that is lent a card does. An ask does what its change does.
-pub enum Deed {
+pub enum Permission {
     Update,
     Delete,
     Append,
@@ -51,34 +52,34 @@ fn is_either(role: u64, a: u64, b: u64) -> bool
 
 // Whether a role may: the surveyor appends and loads, the planner does everything, the manager draws, judges, a chain in one reply
 // too, and asks the cause. No other role may do anything.
-pub fn permits(role: u64, deed: Deed) -> bool
-    ensures { λ r. ⌜ r ≡ R.permits role (deedOf deed) ⌝ }
+pub fn permits(role: u64, permission: Permission) -> bool
+    ensures { λ r. ⌜ r ≡ R.permits role (permissionOf permission) ⌝ }
 {
-    match deed {
-        Deed::Update => is(role, PLANNER),
-        Deed::Delete => is(role, PLANNER),
-        Deed::Append => is_either(role, SURVEYOR, PLANNER),
-        Deed::Load => is_either(role, SURVEYOR, PLANNER),
-        Deed::Batch => is(role, PLANNER),
-        Deed::Commit => is(role, PLANNER),
-        Deed::Drop => is(role, PLANNER),
-        Deed::Draw => is_either(role, PLANNER, MANAGER),
-        Deed::Judge => is_either(role, PLANNER, MANAGER),
-        Deed::Cause => is_either(role, PLANNER, MANAGER),
-        Deed::Pool => is_either(role, PLANNER, MANAGER),
+    match permission {
+        Permission::Update => is(role, PLANNER),
+        Permission::Delete => is(role, PLANNER),
+        Permission::Append => is_either(role, SURVEYOR, PLANNER),
+        Permission::Load => is_either(role, SURVEYOR, PLANNER),
+        Permission::Batch => is(role, PLANNER),
+        Permission::Commit => is(role, PLANNER),
+        Permission::Drop => is(role, PLANNER),
+        Permission::Draw => is_either(role, PLANNER, MANAGER),
+        Permission::Judge => is_either(role, PLANNER, MANAGER),
+        Permission::Cause => is_either(role, PLANNER, MANAGER),
+        Permission::Pool => is_either(role, PLANNER, MANAGER),
     }
 }
 
 // What a change of a kind does, in one step or asked.
-fn deed_of(kind: changes::Kind) -> Deed
-    ensures { λ r. ⌜ ((m : ℕ) (old mark new : List ℕ) → deedOf r ≡ R.editDeed (editOf kind m old mark new)) ⌝ }
+fn permission_for(kind: changes::Kind) -> Permission
+    ensures { λ r. ⌜ ((m : ℕ) (old mark new : List ℕ) → permissionOf r ≡ R.changePermission (changeOf kind m old mark new)) ⌝ }
 {
     match kind {
-        changes::Kind::Update => Deed::Update,
-        changes::Kind::Delete => Deed::Delete,
-        changes::Kind::Append => Deed::Append,
-        changes::Kind::Load => Deed::Load,
-        changes::Kind::Batch => Deed::Batch,
+        changes::Kind::Update => Permission::Update,
+        changes::Kind::Delete => Permission::Delete,
+        changes::Kind::Append => Permission::Append,
+        changes::Kind::Load => Permission::Load,
+        changes::Kind::Batch => Permission::Batch,
     }
 }
 
@@ -95,14 +96,14 @@ pub fn change(
     new: &[u8],
     totals: &mut [u8],
 ) -> u64
-    ensures { λ r. ⌜ r ≡ R.under role (R.editDeed (editOf kind m (now (old .entry)) (now (mark .entry)) (now (new .entry)))) (S.changeCode standard (now (master .entry)) (now (card .entry)) (now (table .entry)) (editOf kind m (now (old .entry)) (now (mark .entry)) (now (new .entry))) (now (totals .entry))) 22 ⌝ }
-    ensures { λ _. ⌜ now (card .exit) ≡ R.under role (R.editDeed (editOf kind m (now (old .entry)) (now (mark .entry)) (now (new .entry)))) (S.changeCard standard (now (master .entry)) (now (card .entry)) (now (table .entry)) (editOf kind m (now (old .entry)) (now (mark .entry)) (now (new .entry))) (now (totals .entry))) (now (card .entry)) ⌝ }
-    ensures { λ _. ⌜ now (table .exit) ≡ R.under role (R.editDeed (editOf kind m (now (old .entry)) (now (mark .entry)) (now (new .entry)))) (S.changeTable standard (now (master .entry)) (now (card .entry)) (now (table .entry)) (editOf kind m (now (old .entry)) (now (mark .entry)) (now (new .entry))) (now (totals .entry))) (now (table .entry)) ⌝ }
-    ensures { λ _. ⌜ now (totals .exit) ≡ R.under role (R.editDeed (editOf kind m (now (old .entry)) (now (mark .entry)) (now (new .entry)))) (S.changeTotals standard (now (master .entry)) (now (card .entry)) (now (table .entry)) (editOf kind m (now (old .entry)) (now (mark .entry)) (now (new .entry))) (now (totals .entry))) (now (totals .entry)) ⌝ }
+    ensures { λ r. ⌜ r ≡ R.under role (R.changePermission (changeOf kind m (now (old .entry)) (now (mark .entry)) (now (new .entry)))) (S.changeCode standard (now (master .entry)) (now (card .entry)) (now (table .entry)) (changeOf kind m (now (old .entry)) (now (mark .entry)) (now (new .entry))) (now (totals .entry))) notPermitted ⌝ }
+    ensures { λ _. ⌜ now (card .exit) ≡ R.under role (R.changePermission (changeOf kind m (now (old .entry)) (now (mark .entry)) (now (new .entry)))) (S.changeCard standard (now (master .entry)) (now (card .entry)) (now (table .entry)) (changeOf kind m (now (old .entry)) (now (mark .entry)) (now (new .entry))) (now (totals .entry))) (now (card .entry)) ⌝ }
+    ensures { λ _. ⌜ now (table .exit) ≡ R.under role (R.changePermission (changeOf kind m (now (old .entry)) (now (mark .entry)) (now (new .entry)))) (S.changeTable standard (now (master .entry)) (now (card .entry)) (now (table .entry)) (changeOf kind m (now (old .entry)) (now (mark .entry)) (now (new .entry))) (now (totals .entry))) (now (table .entry)) ⌝ }
+    ensures { λ _. ⌜ now (totals .exit) ≡ R.under role (R.changePermission (changeOf kind m (now (old .entry)) (now (mark .entry)) (now (new .entry)))) (S.changeTotals standard (now (master .entry)) (now (card .entry)) (now (table .entry)) (changeOf kind m (now (old .entry)) (now (mark .entry)) (now (new .entry))) (now (totals .entry))) (now (totals .entry)) ⌝ }
 {
-    let deed = deed_of(kind);
-    if !permits(role, deed) {
-        return 22;
+    let permission = permission_for(kind);
+    if !permits(role, permission) {
+        return counts::codes::NOT_PERMITTED;
     }
     changes::change(master, card, table, kind, m, old, mark, new, totals)
 }
@@ -121,36 +122,36 @@ pub fn ask(
     new: &[u8],
     totals: &mut [u8],
 ) -> u64
-    ensures { λ r. ⌜ r ≡ R.under role (R.editDeed (editOf kind m (now (old .entry)) (now (mark .entry)) (now (new .entry)))) (Q.askCode standard (now (master .entry)) (now (card .entry)) (now (table .entry)) (now (second .entry)) (editOf kind m (now (old .entry)) (now (mark .entry)) (now (new .entry))) (now (totals .entry))) 22 ⌝ }
-    ensures { λ _. ⌜ now (card .exit) ≡ R.under role (R.editDeed (editOf kind m (now (old .entry)) (now (mark .entry)) (now (new .entry)))) (Q.askCard standard (now (master .entry)) (now (card .entry)) (now (table .entry)) (now (second .entry)) (editOf kind m (now (old .entry)) (now (mark .entry)) (now (new .entry))) (now (totals .entry))) (now (card .entry)) ⌝ }
-    ensures { λ _. ⌜ now (second .exit) ≡ R.under role (R.editDeed (editOf kind m (now (old .entry)) (now (mark .entry)) (now (new .entry)))) (Q.askSecond standard (now (master .entry)) (now (card .entry)) (now (table .entry)) (now (second .entry)) (editOf kind m (now (old .entry)) (now (mark .entry)) (now (new .entry))) (now (totals .entry))) (now (second .entry)) ⌝ }
-    ensures { λ _. ⌜ now (totals .exit) ≡ R.under role (R.editDeed (editOf kind m (now (old .entry)) (now (mark .entry)) (now (new .entry)))) (Q.askTotals standard (now (master .entry)) (now (card .entry)) (now (table .entry)) (now (second .entry)) (editOf kind m (now (old .entry)) (now (mark .entry)) (now (new .entry))) (now (totals .entry))) (now (totals .entry)) ⌝ }
+    ensures { λ r. ⌜ r ≡ R.under role (R.changePermission (changeOf kind m (now (old .entry)) (now (mark .entry)) (now (new .entry)))) (Q.askCode standard (now (master .entry)) (now (card .entry)) (now (table .entry)) (now (second .entry)) (changeOf kind m (now (old .entry)) (now (mark .entry)) (now (new .entry))) (now (totals .entry))) notPermitted ⌝ }
+    ensures { λ _. ⌜ now (card .exit) ≡ R.under role (R.changePermission (changeOf kind m (now (old .entry)) (now (mark .entry)) (now (new .entry)))) (Q.askCard standard (now (master .entry)) (now (card .entry)) (now (table .entry)) (now (second .entry)) (changeOf kind m (now (old .entry)) (now (mark .entry)) (now (new .entry))) (now (totals .entry))) (now (card .entry)) ⌝ }
+    ensures { λ _. ⌜ now (second .exit) ≡ R.under role (R.changePermission (changeOf kind m (now (old .entry)) (now (mark .entry)) (now (new .entry)))) (Q.askSecond standard (now (master .entry)) (now (card .entry)) (now (table .entry)) (now (second .entry)) (changeOf kind m (now (old .entry)) (now (mark .entry)) (now (new .entry))) (now (totals .entry))) (now (second .entry)) ⌝ }
+    ensures { λ _. ⌜ now (totals .exit) ≡ R.under role (R.changePermission (changeOf kind m (now (old .entry)) (now (mark .entry)) (now (new .entry)))) (Q.askTotals standard (now (master .entry)) (now (card .entry)) (now (table .entry)) (now (second .entry)) (changeOf kind m (now (old .entry)) (now (mark .entry)) (now (new .entry))) (now (totals .entry))) (now (totals .entry)) ⌝ }
 {
-    let deed = deed_of(kind);
-    if !permits(role, deed) {
-        return 22;
+    let permission = permission_for(kind);
+    if !permits(role, permission) {
+        return counts::codes::NOT_PERMITTED;
     }
     asks::ask(master, card, table, second, kind, m, old, mark, new, totals)
 }
 
 // A commit, under a role.
 pub fn commit(role: u64, card: &mut [u8]) -> u64
-    ensures { λ r. ⌜ r ≡ R.under role R.toCommit (Q.settleCode (now (card .entry))) 22 ⌝ }
-    ensures { λ _. ⌜ now (card .exit) ≡ R.under role R.toCommit (Q.commitCard (now (card .entry))) (now (card .entry)) ⌝ }
+    ensures { λ r. ⌜ r ≡ R.under role R.mayCommit (Q.settleCode (now (card .entry))) notPermitted ⌝ }
+    ensures { λ _. ⌜ now (card .exit) ≡ R.under role R.mayCommit (Q.commitCard (now (card .entry))) (now (card .entry)) ⌝ }
 {
-    if !permits(role, Deed::Commit) {
-        return 22;
+    if !permits(role, Permission::Commit) {
+        return counts::codes::NOT_PERMITTED;
     }
     asks::commit(card)
 }
 
 // A drop, under a role.
 pub fn drop(role: u64, card: &mut [u8]) -> u64
-    ensures { λ r. ⌜ r ≡ R.under role R.toDrop (Q.settleCode (now (card .entry))) 22 ⌝ }
-    ensures { λ _. ⌜ now (card .exit) ≡ R.under role R.toDrop (Q.dropCard (now (card .entry))) (now (card .entry)) ⌝ }
+    ensures { λ r. ⌜ r ≡ R.under role R.mayDrop (Q.settleCode (now (card .entry))) notPermitted ⌝ }
+    ensures { λ _. ⌜ now (card .exit) ≡ R.under role R.mayDrop (Q.dropCard (now (card .entry))) (now (card .entry)) ⌝ }
 {
-    if !permits(role, Deed::Drop) {
-        return 22;
+    if !permits(role, Permission::Drop) {
+        return counts::codes::NOT_PERMITTED;
     }
     asks::drop(card)
 }
@@ -167,44 +168,44 @@ pub fn draw(
     day: u64,
     minute: u64,
 ) -> u64
-    ensures { λ r. ⌜ r ≡ R.under role R.toDraw (C.drawCode standard (now (master .entry)) (now (card .entry)) (now (message .entry)) (now (plan .entry)) (record { year = year; month = month; day = day; minute = minute })) 22 ⌝ }
-    ensures { λ _. ⌜ now (card .exit) ≡ R.under role R.toDraw (C.drawCard standard (now (master .entry)) (now (card .entry)) (now (message .entry)) (now (plan .entry)) (record { year = year; month = month; day = day; minute = minute })) (now (card .entry)) ⌝ }
-    ensures { λ _. ⌜ now (message .exit) ≡ R.under role R.toDraw (C.drawMessage standard (now (master .entry)) (now (card .entry)) (now (message .entry)) (now (plan .entry)) (record { year = year; month = month; day = day; minute = minute })) (now (message .entry)) ⌝ }
+    ensures { λ r. ⌜ r ≡ R.under role R.mayDraw (C.drawCode standard (now (master .entry)) (now (card .entry)) (now (message .entry)) (now (plan .entry)) (record { year = year; month = month; day = day; minute = minute })) notPermitted ⌝ }
+    ensures { λ _. ⌜ now (card .exit) ≡ R.under role R.mayDraw (C.drawCard standard (now (master .entry)) (now (card .entry)) (now (message .entry)) (now (plan .entry)) (record { year = year; month = month; day = day; minute = minute })) (now (card .entry)) ⌝ }
+    ensures { λ _. ⌜ now (message .exit) ≡ R.under role R.mayDraw (C.drawMessage standard (now (master .entry)) (now (card .entry)) (now (message .entry)) (now (plan .entry)) (record { year = year; month = month; day = day; minute = minute })) (now (message .entry)) ⌝ }
 {
-    if !permits(role, Deed::Draw) {
-        return 22;
+    if !permits(role, Permission::Draw) {
+        return counts::codes::NOT_PERMITTED;
     }
     audits::draw(master, card, message, plan, year, month, day, minute)
 }
 
 // A judgement, under a role: the verdict or a code, and the card.
 pub fn judge(role: u64, master: &[u8], card: &mut [u8], reply: &[u8]) -> u64
-    ensures { λ r. ⌜ r ≡ R.under role R.toJudge (C.judgeCode standard (now (master .entry)) (now (card .entry)) (now (reply .entry))) 22 ⌝ }
-    ensures { λ _. ⌜ now (card .exit) ≡ R.under role R.toJudge (C.judgeCard standard (now (master .entry)) (now (card .entry)) (now (reply .entry))) (now (card .entry)) ⌝ }
+    ensures { λ r. ⌜ r ≡ R.under role R.mayJudge (C.judgeCode standard (now (master .entry)) (now (card .entry)) (now (reply .entry))) notPermitted ⌝ }
+    ensures { λ _. ⌜ now (card .exit) ≡ R.under role R.mayJudge (C.judgeCard standard (now (master .entry)) (now (card .entry)) (now (reply .entry))) (now (card .entry)) ⌝ }
 {
-    if !permits(role, Deed::Judge) {
-        return 22;
+    if !permits(role, Permission::Judge) {
+        return counts::codes::NOT_PERMITTED;
     }
     judging::judge(master, card, reply)
 }
 
 // The cause of a rejected reply, under a role. Writes nothing.
 pub fn cause(role: u64, master: &[u8], card: &[u8], reply: &[u8]) -> u64
-    ensures { λ r. ⌜ r ≡ R.under role R.toCause (C.causeCode standard (now (master .entry)) (now (card .entry)) (now (reply .entry))) 22 ⌝ }
+    ensures { λ r. ⌜ r ≡ R.under role R.mayCause (C.causeCode standard (now (master .entry)) (now (card .entry)) (now (reply .entry))) notPermitted ⌝ }
 {
-    if !permits(role, Deed::Cause) {
-        return 22;
+    if !permits(role, Permission::Cause) {
+        return counts::codes::NOT_PERMITTED;
     }
     judging::cause(master, card, reply)
 }
 
 // A pooled judgement, under a role: the verdict or a code, and the cards.
 pub fn judge_pool(role: u64, master: &[u8], cards: &mut [u8], reply: &[u8]) -> u64
-    ensures { λ r. ⌜ r ≡ R.under role R.toPool (P.poolCode standard (now (master .entry)) (now (cards .entry)) (now (reply .entry))) 22 ⌝ }
-    ensures { λ _. ⌜ now (cards .exit) ≡ R.under role R.toPool (P.poolCards standard (now (master .entry)) (now (cards .entry)) (now (reply .entry))) (now (cards .entry)) ⌝ }
+    ensures { λ r. ⌜ r ≡ R.under role R.mayPool (P.poolCode standard (now (master .entry)) (now (cards .entry)) (now (reply .entry))) notPermitted ⌝ }
+    ensures { λ _. ⌜ now (cards .exit) ≡ R.under role R.mayPool (P.poolCards standard (now (master .entry)) (now (cards .entry)) (now (reply .entry))) (now (cards .entry)) ⌝ }
 {
-    if !permits(role, Deed::Pool) {
-        return 22;
+    if !permits(role, Permission::Pool) {
+        return counts::codes::NOT_PERMITTED;
     }
     pools::judge_pool(master, cards, reply)
 }

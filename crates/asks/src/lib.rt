@@ -1,11 +1,11 @@
-// Changes in two steps: an ask, which writes a second table and the totals of its work and leaves the first table, and then a commit or a drop, which are
+// Changes in two steps: an ask, which writes a second table and its totals and leaves the first table, and then a commit or a drop, which are
 // lent the card alone.
 // A call that is turned away leaves every buffer. Every function equals a definition of the scheme's Asks at the standard primitives. Nothing is assumed.
 ghost use mathlib.Core.Path.{_≡_};
-ghost use Rattle.scheme.specs.Ladder.{first};
+ghost use Rattle.scheme.specs.Checks.{first};
 ghost use Rattle.scheme.specs.Asks as S;
 ghost use Rattle.standard.specs.Standard.{standard};
-ghost use Rattle.changes.specs.Edits.{editOf};
+ghost use Rattle.changes.specs.Kinds.{changeOf};
 
 // The code of an ask by everything but the table's records: that of a change, with 2 for a card of version 1 or 2, and 1 for a second table of another
 // size than the first's. Writes nothing.
@@ -21,11 +21,11 @@ fn check(
     new: &[u8],
     totals: &[u8],
 ) -> u64
-    ensures { λ r. ⌜ r ≡ first 0 (S.askChecks standard (now (master .entry)) (now (card .entry)) (now (table .entry)) (now (second .entry)) (editOf kind m (now (old .entry)) (now (mark .entry)) (now (new .entry))) (now (totals .entry))) ⌝ }
+    ensures { λ r. ⌜ r ≡ first 0 (S.askChecks standard (now (master .entry)) (now (card .entry)) (now (table .entry)) (now (second .entry)) (changeOf kind m (now (old .entry)) (now (mark .entry)) (now (new .entry))) (now (totals .entry))) ⌝ }
 {
     let lent = changes::lent_fits(master, totals);
     if !lent {
-        return 1;
+        return counts::codes::WRONG_LENGTH;
     }
     let fault = cards::check_head(card);
     if fault != 0 {
@@ -33,14 +33,14 @@ fn check(
     }
     let c = cards::read_card(card);
     if c.version != 3 {
-        return 2;
+        return counts::codes::WRONG_HEADER;
     }
     let fits = cards::card_fits(c);
     if !fits {
-        return 3;
+        return counts::codes::OUT_OF_LIMITS;
     }
-    if second.len() as u64 != c.tokens * 63 {
-        return 1;
+    if second.len() as u64 != c.tokens * counts::sizes::RECORD_BYTES {
+        return counts::codes::WRONG_LENGTH;
     }
     changes::late(c, table, kind, m, old, mark, new)
 }
@@ -59,10 +59,10 @@ pub fn ask(
     new: &[u8],
     totals: &mut [u8],
 ) -> u64
-    ensures { λ r. ⌜ r ≡ S.askCode standard (now (master .entry)) (now (card .entry)) (now (table .entry)) (now (second .entry)) (editOf kind m (now (old .entry)) (now (mark .entry)) (now (new .entry))) (now (totals .entry)) ⌝ }
-    ensures { λ _. ⌜ now (card .exit) ≡ S.askCard standard (now (master .entry)) (now (card .entry)) (now (table .entry)) (now (second .entry)) (editOf kind m (now (old .entry)) (now (mark .entry)) (now (new .entry))) (now (totals .entry)) ⌝ }
-    ensures { λ _. ⌜ now (second .exit) ≡ S.askSecond standard (now (master .entry)) (now (card .entry)) (now (table .entry)) (now (second .entry)) (editOf kind m (now (old .entry)) (now (mark .entry)) (now (new .entry))) (now (totals .entry)) ⌝ }
-    ensures { λ _. ⌜ now (totals .exit) ≡ S.askTotals standard (now (master .entry)) (now (card .entry)) (now (table .entry)) (now (second .entry)) (editOf kind m (now (old .entry)) (now (mark .entry)) (now (new .entry))) (now (totals .entry)) ⌝ }
+    ensures { λ r. ⌜ r ≡ S.askCode standard (now (master .entry)) (now (card .entry)) (now (table .entry)) (now (second .entry)) (changeOf kind m (now (old .entry)) (now (mark .entry)) (now (new .entry))) (now (totals .entry)) ⌝ }
+    ensures { λ _. ⌜ now (card .exit) ≡ S.askCard standard (now (master .entry)) (now (card .entry)) (now (table .entry)) (now (second .entry)) (changeOf kind m (now (old .entry)) (now (mark .entry)) (now (new .entry))) (now (totals .entry)) ⌝ }
+    ensures { λ _. ⌜ now (second .exit) ≡ S.askSecond standard (now (master .entry)) (now (card .entry)) (now (table .entry)) (now (second .entry)) (changeOf kind m (now (old .entry)) (now (mark .entry)) (now (new .entry))) (now (totals .entry)) ⌝ }
+    ensures { λ _. ⌜ now (totals .exit) ≡ S.askTotals standard (now (master .entry)) (now (card .entry)) (now (table .entry)) (now (second .entry)) (changeOf kind m (now (old .entry)) (now (mark .entry)) (now (new .entry))) (now (totals .entry)) ⌝ }
 {
     let code = check(master, card, table, second, kind, m, old, mark, new, totals);
     if code != 0 {
@@ -91,7 +91,7 @@ fn settle_code(card: &[u8]) -> u64
     }
     let c = cards::read_card(card);
     if c.pending == 0 {
-        return 19;
+        return counts::codes::NONE_PENDING;
     }
     0
 }

@@ -1,5 +1,5 @@
--- What is asked of every item of a batch, in a loop from its front: what is left to ask. Assumes nothing.
---   left                               the items from one on
+-- What is asked of every item of a batch, in a loop from its front: what is itemsLeft to ask. Assumes nothing.
+--   itemsLeft                               the items from one on
 --   all-begun, all-failed, all-next, all-done   a test of every item; all-each: where it holds, of each
 --   within-low, within-high            a test of limits, from 1 on, that fails
 --   kinds-none, kinds-more .. numbers-more     of the kinds, of the marks, of the numbers
@@ -16,72 +16,72 @@ use mathlib.Core.Bool.{Bool, true, false, _&&_}
 use borrow.Author.Tests.{lt-ltb, le-ltb, lt-leb}
 use lib.Dec.{eqb, leb, ltb}
 use lib.ListN.{length, drop}
-use Rattle.scheme.specs.Ladder.{first, within}
+use Rattle.scheme.specs.Checks.{first, within}
 use Rattle.scheme.specs.Batches.{Item, itemSize, itemsFrom, itemsOf, kindsFit, risingFrom, rising, batchFits, itemMarksFit, numbersFit}
 use Rattle.scheme.specs.Marks.{marksFit}
-use Rattle.scheme.proofs.LadderLaws.{both}
-use Rattle.scheme.proofs.LoopLaws.{items-step}
+use Rattle.scheme.proofs.laws.CheckLaws.{both}
+use Rattle.scheme.proofs.laws.LoopLaws.{items-step}
 use Rattle.cards.specs.Fields.{cardOf}
 use Rattle.cards.specs.declared.Card.{Card}
 use Rattle.batches.specs.Items.{itemIn, itemChecks, batchChecks}
 
-abbrev pub left : ℕ → ℕ → ℕ → ℕ → List ℕ → List Item
-left v B k e items = itemsFrom v B (k - e) (drop (e * itemSize v B) items)
+abbrev pub itemsLeft : ℕ → ℕ → ℕ → ℕ → List ℕ → List Item
+itemsLeft v B k e items = itemsFrom v B (k - e) (drop (e * itemSize v B) items)
 
 module _ (v B k : ℕ) (items : List ℕ) where
-  left-all : left v B k 0 items ≡ itemsFrom v B k items
+  left-all : itemsLeft v B k 0 items ≡ itemsFrom v B k items
   left-all =
       let z : k - 0 ≡ k = omega arith in
       ap₂ (λ (n a : ℕ). itemsFrom v B n (drop a items)) z (zero-mul (itemSize v B))
 
-  left-none : (e : ℕ) → k ≤ e → left v B k e items ≡ []
+  left-none : (e : ℕ) → k ≤ e → itemsLeft v B k e items ≡ []
   unfolding itemsFrom
   left-none e h = let z : k - e ≡ 0 = omega arith in rw z
 
   -- a test p of every item, by a definition that recurses from the front
   module _ (p : Item → Bool) (all : List Item → Bool) (none : all [] ≡ true) (more : (x : Item) (xs : List Item) → all (x ∷ xs) ≡ (p x && all xs)) where
-    pub all-begun : all (itemsFrom v B k items) ≡ all (left v B k 0 items)
+    pub all-begun : all (itemsFrom v B k items) ≡ all (itemsLeft v B k 0 items)
     all-begun = ap all (sym left-all)
 
-    step : (e : ℕ) → e < k → all (left v B k e items) ≡ (p (itemIn v B e items) && all (left v B k (e + 1) items))
-    step e h = ap all (items-step v B k e items h) ∙ more (itemIn v B e items) (left v B k (e + 1) items)
+    step : (e : ℕ) → e < k → all (itemsLeft v B k e items) ≡ (p (itemIn v B e items) && all (itemsLeft v B k (e + 1) items))
+    step e h = ap all (items-step v B k e items h) ∙ more (itemIn v B e items) (itemsLeft v B k (e + 1) items)
 
-    pub all-failed : (e : ℕ) → e < k → p (itemIn v B e items) ≡ false → all (left v B k e items) ≡ false
-    all-failed e h f = step e h ∙ ap (λ (b : Bool). b && all (left v B k (e + 1) items)) f
+    pub all-failed : (e : ℕ) → e < k → p (itemIn v B e items) ≡ false → all (itemsLeft v B k e items) ≡ false
+    all-failed e h f = step e h ∙ ap (λ (b : Bool). b && all (itemsLeft v B k (e + 1) items)) f
 
-    pub all-next : (e : ℕ) → e < k → p (itemIn v B e items) ≡ true → all (left v B k e items) ≡ all (left v B k (e + 1) items)
-    all-next e h f = step e h ∙ ap (λ (b : Bool). b && all (left v B k (e + 1) items)) f
+    pub all-next : (e : ℕ) → e < k → p (itemIn v B e items) ≡ true → all (itemsLeft v B k e items) ≡ all (itemsLeft v B k (e + 1) items)
+    all-next e h f = step e h ∙ ap (λ (b : Bool). b && all (itemsLeft v B k (e + 1) items)) f
 
-    all-from : (e : ℕ) → e ≤ k → all (itemsFrom v B k items) ≡ true → all (left v B k e items) ≡ true
+    all-from : (e : ℕ) → e ≤ k → all (itemsFrom v B k items) ≡ true → all (itemsLeft v B k e items) ≡ true
     all-from zero h f = sym all-begun ∙ f
     all-from (suc e) h f =
-        ap (λ (i : ℕ). all (left v B k i items)) (sym (add-one e))
-        ∙ both (p (itemIn v B e items)) (all (left v B k (e + 1) items)) (sym (step e (omega arith)) ∙ all-from e (omega arith) f) .1
+        ap (λ (i : ℕ). all (itemsLeft v B k i items)) (sym (add-one e))
+        ∙ both (p (itemIn v B e items)) (all (itemsLeft v B k (e + 1) items)) (sym (step e (omega arith)) ∙ all-from e (omega arith) f) .1
 
     pub all-each : (e : ℕ) → e < k → all (itemsFrom v B k items) ≡ true → p (itemIn v B e items) ≡ true
-    all-each e h f = both (p (itemIn v B e items)) (all (left v B k (e + 1) items)) (sym (step e h) ∙ all-from e (omega arith) f) .0
+    all-each e h f = both (p (itemIn v B e items)) (all (itemsLeft v B k (e + 1) items)) (sym (step e h) ∙ all-from e (omega arith) f) .0
 
-    pub all-done : (e : ℕ) → k ≤ e → all (left v B k e items) ≡ true
+    pub all-done : (e : ℕ) → k ≤ e → all (itemsLeft v B k e items) ≡ true
     all-done e h = ap all (left-none e h) ∙ none
 
-  pub rise-begun : 1 ≤ k → rising (itemsFrom v B k items) ≡ risingFrom (itemIn v B 0 items .number) (left v B k 1 items)
+  pub rise-begun : 1 ≤ k → rising (itemsFrom v B k items) ≡ risingFrom (itemIn v B 0 items .number) (itemsLeft v B k 1 items)
   unfolding rising
   rise-begun h = ap rising (sym left-all ∙ items-step v B k 0 items (omega arith))
 
   module _ (e last : ℕ) where
-    rise-step : e < k → risingFrom last (left v B k e items) ≡ (ltb last (itemIn v B e items .number) && risingFrom (itemIn v B e items .number) (left v B k (e + 1) items))
+    rise-step : e < k → risingFrom last (itemsLeft v B k e items) ≡ (ltb last (itemIn v B e items .number) && risingFrom (itemIn v B e items .number) (itemsLeft v B k (e + 1) items))
     unfolding risingFrom
     rise-step h = ap (risingFrom last) (items-step v B k e items h)
 
-    pub rise-failed : e < k → itemIn v B e items .number ≤ last → risingFrom last (left v B k e items) ≡ false
+    pub rise-failed : e < k → itemIn v B e items .number ≤ last → risingFrom last (itemsLeft v B k e items) ≡ false
     rise-failed h l =
-        rise-step h ∙ ap (λ (b : Bool). b && risingFrom (itemIn v B e items .number) (left v B k (e + 1) items)) (le-ltb last (itemIn v B e items .number) l)
+        rise-step h ∙ ap (λ (b : Bool). b && risingFrom (itemIn v B e items .number) (itemsLeft v B k (e + 1) items)) (le-ltb last (itemIn v B e items .number) l)
 
-    pub rise-next : e < k → last < itemIn v B e items .number → risingFrom last (left v B k e items) ≡ risingFrom (itemIn v B e items .number) (left v B k (e + 1) items)
+    pub rise-next : e < k → last < itemIn v B e items .number → risingFrom last (itemsLeft v B k e items) ≡ risingFrom (itemIn v B e items .number) (itemsLeft v B k (e + 1) items)
     rise-next h l =
-        rise-step h ∙ ap (λ (b : Bool). b && risingFrom (itemIn v B e items .number) (left v B k (e + 1) items)) (lt-ltb last (itemIn v B e items .number) l)
+        rise-step h ∙ ap (λ (b : Bool). b && risingFrom (itemIn v B e items .number) (itemsLeft v B k (e + 1) items)) (lt-ltb last (itemIn v B e items .number) l)
 
-    pub rise-done : k ≤ e → risingFrom last (left v B k e items) ≡ true
+    pub rise-done : k ≤ e → risingFrom last (itemsLeft v B k e items) ≡ true
     unfolding risingFrom
     rise-done h = ap (risingFrom last) (left-none e h)
 

@@ -1,6 +1,6 @@
 -- Where the items of a batch lie, and what is read there. Assumes nothing.
 --   marks-few              a mark has at most one byte
---   inside, item-few       a piece of a buffer of several is in it; where an item begins is a small number
+--   item-within, item-few       a piece of a buffer of several is in it; where an item begins is a small number
 --   kind-read .. new-read   what is read of an item that begins at an offset
 --   mark-none, mark-byte   its mark, where marks have no byte and where they have one
 use Prim.Native.Nat.{ℕ, _+_, _*_, _≤_, _<_}
@@ -15,11 +15,11 @@ use lib.Dec.{eqb}
 use Rattle.octets.specs.Octets.{ofBe, part}
 use Rattle.scheme.specs.Marks.{marksIn}
 use Rattle.scheme.specs.Batches.{itemSize}
-use Rattle.scheme.proofs.LoopLaws.{item-at}
+use Rattle.scheme.proofs.laws.LoopLaws.{item-at}
 use Rattle.batches.specs.Items.{itemIn}
 
-pub inside : (e n B : ℕ) → e < n → e * B + B ≤ n * B
-inside e n B h = subst (λ (x : ℕ). x ≤ n * B) (suc-mul e B) (mul-le-mul-right B (omega arith))
+pub item-within : (e n B : ℕ) → e < n → e * B + B ≤ n * B
+item-within e n B h = subst (λ (x : ℕ). x ≤ n * B) (suc-mul e B) (mul-le-mul-right B (omega arith))
 
 pub marks-few : (v : ℕ) → marksIn v ≤ 1
 unfolding marksIn
@@ -37,7 +37,7 @@ pub item-few : (e v B r : ℕ) → r ≡ itemSize v B → e ≤ 64 → B ≤ 409
 item-few e v B r er h l = le-trans (mul-le-mul-right r h) (omega (arith, er, item-long v B, marks-few v))
 
 pub item-room : (e k v B long : ℕ) → e < k → k * itemSize v B ≤ long → e * itemSize v B + itemSize v B ≤ long
-item-room e k v B long h l = le-trans (inside e k (itemSize v B) h) l
+item-room e k v B long h l = le-trans (item-within e k (itemSize v B) h) l
 
 module _ (v B e a : ℕ) (items : List ℕ) (ea : a ≡ e * itemSize v B) where
   pub kind-read : getD items a 0 ≡ itemIn v B e items .kind

@@ -6,6 +6,7 @@ use Prim.Native.Nat.{ℕ, _*_}
 use mathlib.Core.Bool.{Bool, _&&_}
 use mathlib.Core.List.{List, [], _∷_}
 use lib.ListN.{drop}
+use Rattle.counts.specs.Codes.{noSuchBlock, badBatch, badMark}
 use Rattle.scheme.specs.Batches.{Item, itemSize, readItem, itemsOf, kindsFit, rising, batchFits, itemMarksFit, numbersFit}
 use Rattle.scheme.specs.Records.{Card}
 
@@ -13,8 +14,8 @@ abbrev pub itemIn : ℕ → ℕ → ℕ → List ℕ → Item
 itemIn v B e items = readItem v B (drop (e * itemSize v B) items)
 
 abbrev pub itemChecks : ℕ → List Item → List (Bool × ℕ)
-itemChecks n xs = (kindsFit xs && rising xs, 14) ∷ (itemMarksFit xs, 15) ∷ (numbersFit n xs, 4) ∷ []
+itemChecks n xs = (kindsFit xs && rising xs, badBatch) ∷ (itemMarksFit xs, badMark) ∷ (numbersFit n xs, noSuchBlock) ∷ []
 
 -- "just before 4, a batch of another size or kind, or with numbers that don't rise (14)"; "a mark above 1 (15), in a batch straight after 14"
 abbrev pub batchChecks : Card → List ℕ → List (Bool × ℕ)
-batchChecks c items = (batchFits c items, 14) ∷ (itemMarksFit (itemsOf c items), 15) ∷ (numbersFit (c .n) (itemsOf c items), 4) ∷ []
+batchChecks c items = (batchFits c items, badBatch) ∷ (itemMarksFit (itemsOf c items), badMark) ∷ (numbersFit (c .n) (itemsOf c items), noSuchBlock) ∷ []

@@ -19,42 +19,42 @@ use Rattle.octets.specs.Octets.{be, part, xors}
 use Rattle.sha256.specs.Sha256.{sha256}
 use Rattle.scheme.specs.Marks.{marksIn, live, deleted}
 use Rattle.scheme.specs.Batches.{itemSize, itemBlock}
-use Rattle.scheme.specs.Tokens.{Change, replaced, added, blockHash, mixed}
+use Rattle.scheme.specs.Tokens.{BlockChange, replaced, added, blockHash, mixed}
 use Rattle.scheme.specs.Totals.{hashesIn}
 use Rattle.standard.specs.Standard.{standard}
 use Rattle.hash_queue.specs.Waiting.{said}
 use Rattle.batches.specs.Items.{itemIn}
 use Rattle.batches.proofs.ItemLaws.{old-read, new-read}
-use Rattle.tokens.specs.Keyed.{changeOf}
+use Rattle.tokens.specs.Keyed.{blockChangeOf}
 use Rattle.tokens.proofs.HeadLaws.{head-hashed, live-mark}
-use Rattle.block_changes.specs.Items.{numberAt, changeAt, severalAt, alone}
-use Rattle.block_changes.specs.declared.Work.{Work}
+use Rattle.block_changes.specs.BlockChanges.{numberAt, blockChangeAt, severalAt, alone}
+use Rattle.block_changes.specs.declared.BlockChanges.{BlockChanges}
 
-pub alone-listed : (w : Work) → w .listed ≡ true → false ≡ alone w
+pub alone-listed : (w : BlockChanges) → w .listed ≡ true → false ≡ alone w
 unfolding alone
 alone-listed w l = rw l
 
-pub alone-counted : (w : Work) → w .listed ≡ false → eqb (w .count) 1 ≡ alone w
+pub alone-counted : (w : BlockChanges) → w .listed ≡ false → eqb (w .count) 1 ≡ alone w
 unfolding alone
 alone-counted w l = rw l
 
-pub hashes-listed : (w : Work) → w .listed ≡ true → (new : List ℕ) (e : ℕ) → 2 ≡ hashesIn (severalAt w new e)
-unfolding changeAt
+pub hashes-listed : (w : BlockChanges) → w .listed ≡ true → (new : List ℕ) (e : ℕ) → 2 ≡ hashesIn (severalAt w new e)
+unfolding blockChangeAt
 hashes-listed w l new e = rw l
 
-pub hashes-added : (w : Work) (n : ℕ) → w .listed ≡ false → ((old new : List ℕ) → n ≡ hashesIn (changeOf (w .fresh) old new)) → (new : List ℕ) (e : ℕ)
+pub hashes-added : (w : BlockChanges) (n : ℕ) → w .listed ≡ false → ((old new : List ℕ) → n ≡ hashesIn (blockChangeOf (w .fresh) old new)) → (new : List ℕ) (e : ℕ)
     → n ≡ hashesIn (severalAt w new e)
-unfolding changeAt
+unfolding blockChangeAt
 hashes-added w n l h new e = rw l (h ([] ++ part (e * w .size) (w .size) []) (live (w .version) ++ part (e * w .size) (w .size) new))
 
 pub piece-few : (e n B : ℕ) → e < n → n ≤ 16777216 → B ≤ 4096 → e * B ≤ 68719476736
 piece-few e n B h l s = le-trans (mul-le-mul-right B (le-trans (omega arith) l)) (omega (arith, s))
 
-pub number-listed : (w : Work) (new : List ℕ) (e : ℕ) → w .listed ≡ true → itemIn (w .version) (w .size) e new .number ≡ numberAt w new e
+pub number-listed : (w : BlockChanges) (new : List ℕ) (e : ℕ) → w .listed ≡ true → itemIn (w .version) (w .size) e new .number ≡ numberAt w new e
 unfolding numberAt
 number-listed w new e l = rw l
 
-pub number-added : (w : Work) (new : List ℕ) (e : ℕ) → w .listed ≡ false → w .first + e ≡ numberAt w new e
+pub number-added : (w : BlockChanges) (new : List ℕ) (e : ℕ) → w .listed ≡ false → w .first + e ≡ numberAt w new e
 unfolding numberAt
 number-added w new e l = rw l
 
@@ -72,14 +72,14 @@ unfolding said
 hash-said c head index mark k h a B far l e eh =
     ap (λ (n : ℕ). sha256 (take n head ++ part a B far)) eh ∙ head-hashed c head (part a B far) index mark k l e
 
-module _ (w : Work) (new c x : List ℕ) (index e : ℕ) where
+module _ (w : BlockChanges) (new c x : List ℕ) (index e : ℕ) where
   -- a block with the mark of a live one
   alive : (z : List ℕ) → take {A = ℕ} (marksIn (w .version)) (0 ∷ []) ++ z ≡ live (w .version) ++ z
   alive z = ap (λ (m : List ℕ). m ++ z) (live-mark (w .version))
 
   pub added-mixed : (a : ℕ) → w .listed ≡ false → w .fresh ≡ true → a ≡ e * w .size
       → xors x (blockHash standard c index (take (marksIn (w .version)) (0 ∷ []) ++ part a (w .size) new)) ≡ mixed standard c index (severalAt w new e) x
-  unfolding changeAt changeOf mixed
+  unfolding blockChangeAt blockChangeOf mixed
   added-mixed a l f ea = ap (λ (z : List ℕ). xors x (blockHash standard c index z)) (alive (part a (w .size) new)) ∙ rw (l, f, ea)
 
   -- an item of a batch: old and new
@@ -88,7 +88,7 @@ module _ (w : Work) (new c x : List ℕ) (index e : ℕ) where
       (ey : y ≡ xors x (blockHash standard c index (take (marksIn (w .version)) (mark ∷ []) ++ part (a + 5) (w .size) new))) where
     replaced-mixed : (z : List ℕ) → z ≡ itemBlock (w .version) (w .size) (itemIn (w .version) (w .size) e new)
         → xors y (blockHash standard c index z) ≡ mixed standard c index (severalAt w new e) x
-    unfolding changeAt mixed
+    unfolding blockChangeAt mixed
     replaced-mixed z ez =
         ap₂ (λ (u v : List ℕ). xors u (blockHash standard c index v))
         (ey ∙ ap₂ (λ (m o : List ℕ). xors x (blockHash standard c index (m ++ o))) em (old-read (w .version) (w .size) e a new ea)) ez

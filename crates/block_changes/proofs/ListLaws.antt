@@ -11,18 +11,18 @@ use lib.ListN.{length, take, drop}
 use lib.Seq.{drop-drop}
 use Rattle.octets.specs.Octets.{part}
 use Rattle.scheme.specs.Marks.{alike}
-use Rattle.scheme.specs.Batches.{Item, itemSize, readItem, itemsFrom, itemBlock, batchWork}
+use Rattle.scheme.specs.Batches.{Item, itemSize, readItem, itemsFrom, itemBlock, batchChanges}
 use Rattle.scheme.specs.Lists.{pieces}
-use Rattle.scheme.specs.Tokens.{Change, replaced, added, addedFrom}
-use Rattle.scheme.proofs.MarkLaws.{alike-long}
-use Rattle.scheme.proofs.TableLaws.{pieces-length}
+use Rattle.scheme.specs.Tokens.{BlockChange, replaced, added, addedFrom}
+use Rattle.scheme.proofs.laws.MarkLaws.{alike-long}
+use Rattle.scheme.proofs.laws.TableLaws.{pieces-length}
 use Rattle.batches.specs.Items.{itemIn}
-use Rattle.block_changes.specs.Items.{itemsBelow}
+use Rattle.block_changes.specs.BlockChanges.{itemsBelow}
 
-pub items-same : (f g : ℕ → ℕ × Change) → ((e : ℕ) → f e ≡ g e) → (n : ℕ) → itemsBelow n f ≡ itemsBelow n g
+pub items-same : (f g : ℕ → ℕ × BlockChange) → ((e : ℕ) → f e ≡ g e) → (n : ℕ) → itemsBelow n f ≡ itemsBelow n g
 unfolding itemsBelow
 items-same f g h zero = refl
-items-same f g h (suc n) = ap₂ (λ (xs : List (ℕ × Change)) (x : ℕ × Change). xs ++ (x ∷ [])) (items-same f g h n) (h n)
+items-same f g h (suc n) = ap₂ (λ (xs : List (ℕ × BlockChange)) (x : ℕ × BlockChange). xs ++ (x ∷ [])) (items-same f g h n) (h n)
 
 -- blocks added one after the other
 pieces-more : (B n : ℕ) (xs : List ℕ) → pieces B (suc n) xs ≡ pieces B n xs ++ (part (n * B) B xs ∷ [])
@@ -41,7 +41,7 @@ unfolding addedFrom
 added-more m [] y = let z : m ≡ m + 0 = omega arith in ap (λ (k : ℕ). (k, added y) ∷ []) z
 added-more m (x ∷ ys) y =
     let z : m + 1 + length ys ≡ m + suc (length ys) = omega arith in
-    ap (λ (l : List (ℕ × Change)). (m, added x) ∷ l) (added-more (m + 1) ys y ∙ ap (λ (k : ℕ). addedFrom (m + 1) ys ++ ((k, added y) ∷ [])) z)
+    ap (λ (l : List (ℕ × BlockChange)). (m, added x) ∷ l) (added-more (m + 1) ys y ∙ ap (λ (k : ℕ). addedFrom (m + 1) ys ++ ((k, added y) ∷ [])) z)
 
 alike-more : (m : List ℕ) (ys : List (List ℕ)) (y : List ℕ) → alike m (ys ++ (y ∷ [])) ≡ alike m ys ++ ((m ++ y) ∷ [])
 unfolding alike
@@ -54,12 +54,12 @@ unfolding itemsBelow addedFrom pieces alike
 items-added mark m B zero xs = refl
 items-added mark m B (suc n) xs =
     let last : List ℕ = part (n * B) B xs in
-    ap₂ (λ (l : List (ℕ × Change)) (k : ℕ). l ++ ((m + k, added (mark ++ last)) ∷ [])) (items-added mark m B n xs)
+    ap₂ (λ (l : List (ℕ × BlockChange)) (k : ℕ). l ++ ((m + k, added (mark ++ last)) ∷ [])) (items-added mark m B n xs)
     (sym (alike-long mark (pieces B n xs) ∙ pieces-length B n xs))
     ∙ sym (ap (addedFrom m) (ap (alike mark) (pieces-more B n xs) ∙ alike-more mark (pieces B n xs) last) ∙ added-more m (alike mark (pieces B n xs)) (mark ++ last))
 
 -- the items of a batch
-abbrev correction : ℕ → ℕ → Item → ℕ × Change
+abbrev correction : ℕ → ℕ → Item → ℕ × BlockChange
 correction v B x = (x .number, replaced (x .mark ++ x .old) (itemBlock v B x))
 
 module _ (v B : ℕ) where
@@ -72,14 +72,14 @@ module _ (v B : ℕ) where
       ∙ ap (λ (u : List ℕ). readItem v B xs ∷ (itemsFrom v B k (drop (itemSize v B) xs) ++ (readItem v B u ∷ [])))
       (drop-drop (k * itemSize v B) (itemSize v B) xs ∙ ap (λ (i : ℕ). drop i xs) z)
 
-  work-more : (xs : List Item) (x : Item) → batchWork v B (xs ++ (x ∷ [])) ≡ batchWork v B xs ++ (correction v B x ∷ [])
-  unfolding batchWork
-  work-more [] x = refl
-  work-more (y ∷ xs) x = ap (λ (l : List (ℕ × Change)). correction v B y ∷ l) (work-more xs x)
+  changes-more : (xs : List Item) (x : Item) → batchChanges v B (xs ++ (x ∷ [])) ≡ batchChanges v B xs ++ (correction v B x ∷ [])
+  unfolding batchChanges
+  changes-more [] x = refl
+  changes-more (y ∷ xs) x = ap (λ (l : List (ℕ × BlockChange)). correction v B y ∷ l) (changes-more xs x)
 
-  pub items-listed : (k : ℕ) (xs : List ℕ) → itemsBelow k (λ e. correction v B (itemIn v B e xs)) ≡ batchWork v B (itemsFrom v B k xs)
-  unfolding itemsBelow itemsFrom batchWork
+  pub items-listed : (k : ℕ) (xs : List ℕ) → itemsBelow k (λ e. correction v B (itemIn v B e xs)) ≡ batchChanges v B (itemsFrom v B k xs)
+  unfolding itemsBelow itemsFrom batchChanges
   items-listed zero xs = refl
   items-listed (suc k) xs =
-      ap (λ (l : List (ℕ × Change)). l ++ (correction v B (itemIn v B k xs) ∷ [])) (items-listed k xs)
-      ∙ sym (ap (batchWork v B) (items-more k xs) ∙ work-more (itemsFrom v B k xs) (itemIn v B k xs))
+      ap (λ (l : List (ℕ × BlockChange)). l ++ (correction v B (itemIn v B k xs) ∷ [])) (items-listed k xs)
+      ∙ sym (ap (batchChanges v B) (items-more k xs) ∙ changes-more (itemsFrom v B k xs) (itemIn v B k xs))

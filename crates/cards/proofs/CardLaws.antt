@@ -4,7 +4,7 @@
 --   card-fits-is, asks-fit-is                  the tests of a card joined, and those of what it tells of asks
 --   length-three, length-other, length-least   what a card's length field says
 --   sized-least, head-is                       the size of a card, and the tests of its head joined
---   told, untold                               what version 3 alone tells
+--   cond-three, untold                               what version 3 alone tells
 --   card-plain, card-asking                    the bytes of a card: the 43 that every card has, alone, and with 20 behind them
 use Prim.Native.Nat.{ℕ, _+_, _-_, _≤_, _<_}
 use native.Mathlib.Omega.{arith}
@@ -17,7 +17,7 @@ use lib.ListN.{length, getD, replicate, length-append}
 use Rattle.octets.specs.Octets.{be, ofBe, part, put}
 use Rattle.octets.proofs.NumberLaws.{length-be}
 use Rattle.octets.proofs.PartLaws.{put-put, put-whole}
-use Rattle.scheme.specs.Ladder.{within}
+use Rattle.scheme.specs.Checks.{within}
 use Rattle.scheme.specs.Records.{Card, cardLength, cardBytes, readCard, cardSized, headKnown, cardHead, shapeFits, tokenFits, blocksFit, asksFit, cardFits}
 use Rattle.records.proofs.FieldLaws as F
 use Rattle.cards.specs.Fields.{frontBytes, askBytes}
@@ -70,7 +70,7 @@ card-fits-is c p q r z w =
     (sym (and-assoc (shapeFits (c .B) (c .d) (c .r) && tokenFits (c .t) && blocksFit (c .n) && leb (c .ctr) 4294967295)
     (within 1 (c .t + 1) (c .next)) (eqb (c .open′) 0 || eqb (c .open′) (c .next - 1)))))
 
--- the tests of what is told of asks
+-- the tests of what is cond-three of asks
 pub asks-fit-is : (c : Card) {i k : Bool} → i ≡ within (c .ctr) 4294967295 (c .last) → k ≡ within (c .n) 16777216 (c .count)
     → (i && ((eqb (c .pending) 0 && eqb (c .count) 0) || (eqb (c .pending) (c .last) && ltb (c .ctr) (c .pending) && k && eqb (c .open′) 0))) ≡ asksFit c
 unfolding asksFit
@@ -110,8 +110,8 @@ head-is xs {v} {long} {known} p q r =
     ap₂ (λ (b : Bool) (n : ℕ). b && eqb (length xs) (2 + n)) (r ∙ ap (λ (n : ℕ). headKnown n xs) e) e
 
 -- what version 3 alone tells
-pub told : (v x y : ℕ) → v ≡ 3 → x ≡ cond (eqb v 3) x y
-told v x y e = rw (eq-eqb v 3 e)
+pub cond-three : (v x y : ℕ) → v ≡ 3 → x ≡ cond (eqb v 3) x y
+cond-three v x y e = rw (eq-eqb v 3 e)
 
 pub untold : (v x y : ℕ) → (v ≡ 3 → ⊥) → y ≡ cond (eqb v 3) x y
 untold v x y n = rw (ne-eqb v 3 n)

@@ -1,9 +1,9 @@
--- The codes of a card's checks: from the tests, back to the tests, and in the ladders of the calls. Assumes nothing.
+-- The codes of a card's checks: from the tests, back to the tests, and among the checks of the calls. Assumes nothing.
 --   head-code, card-code, card-refused, card-of   the codes of the head and of the card from their tests, and of the card from the head's
 --   CardFine, card-fine                           what a card of code 0 has; card-held: the limits of its numbers in the program
 --   head-long, readable, head-read, card-read     it has the bytes that reading asks for
 --   card-version, head-room, turned-over, after-room, turned-room    its version is one that there is, and a card of its version can be written over it
---   card-rungs                                    the first three rungs of a call's ladder as one code
+--   card-checks                                    the first three checks of a call as one code
 use Prim.Native.Nat.{ℕ, _+_, _≤_, _<_}
 use native.Mathlib.Omega.{arith}
 use mathlib.Core.Path.{_≡_, sym, ap, _∙_}
@@ -12,13 +12,13 @@ use mathlib.Core.Bool.{Bool, true, cond, _&&_}
 use borrow.Author.Tests.{eqb-true}
 use lib.Dec.{eqb}
 use lib.ListN.{length, getD}
-use Rattle.scheme.specs.Ladder.{first, ifZero}
+use Rattle.scheme.specs.Checks.{first, ifZero}
 use Rattle.scheme.specs.Marks.{versionFits}
 use Rattle.scheme.specs.Records.{Card, readCard, headKnown, cardLength, cardSized, cardHead, cardFits}
 use Rattle.scheme.specs.Calls.{turnedCard}
-use Rattle.scheme.proofs.LadderLaws.{rung, kept, done, both, first-append, first-stage}
-use Rattle.scheme.proofs.LimitLaws.{Limits, card-limits}
-use Rattle.records.proofs.FaultLaws.{fault-of, fault-held, fault-rungs, head-version, version-small}
+use Rattle.scheme.proofs.laws.CheckLaws.{first-passed, refusal-kept, answer-written, both, first-append, first-stage}
+use Rattle.scheme.proofs.laws.LimitLaws.{Limits, card-limits}
+use Rattle.records.proofs.FaultLaws.{fault-of, fault-held, fault-checks, head-version, version-small}
 use Rattle.cards.specs.declared.Card as DC
 use Rattle.cards.specs.Fields.{cardOf, headFault, cardFault}
 use Rattle.cards.proofs.CardLaws.{length-least, length-three}
@@ -42,11 +42,11 @@ module _ (xs : List ℕ) where
 
   module _ (n : ℕ) (e : n ≡ headFault xs) where
     pub card-refused : (n ≡ 0 → ⊥) → n ≡ cardFault xs
-    card-refused h = e ∙ kept (headFault xs) _ (headFault xs) n e h ∙ sym stages
+    card-refused h = e ∙ refusal-kept (headFault xs) _ (headFault xs) n e h ∙ sym stages
 
     pub card-of : {b : Bool} (c : DC.Card) → n ≡ 0 → cardOf c ≡ readCard xs → cardFits (cardOf c) ≡ b → cond b 0 3 ≡ cardFault xs
     card-of {b} c z k f =
-        ap (λ (t : Bool). cond t 0 3) (sym f ∙ ap cardFits k) ∙ done (headFault xs) (cond (cardFits (readCard xs)) 0 3) (headFault xs) n e z ∙ sym stages
+        ap (λ (t : Bool). cond t 0 3) (sym f ∙ ap cardFits k) ∙ answer-written (headFault xs) (cond (cardFits (readCard xs)) 0 3) (headFault xs) n e z ∙ sym stages
 
   -- what reading asks for
   pub head-long : cardHead xs ≡ true → length xs ≡ 2 + cardLength (getD xs 2 0)
@@ -63,7 +63,7 @@ module _ (xs : List ℕ) where
 
   pub head-read : headFault xs ≡ 0 → (43 ≤ length xs) × (getD xs 2 0 ≡ 3 → 63 ≤ length xs)
   unfolding headFault
-  head-read z = readable (rung (cardHead xs, 2) [] (omega arith) (rung (cardSized xs, 1) _ (omega arith) z .1) .0)
+  head-read z = readable (first-passed (cardHead xs, 2) [] (omega arith) (first-passed (cardSized xs, 1) _ (omega arith) z .1) .0)
 
   -- what a card of code 0 has
   pub record CardFine : Type 0 where
@@ -121,9 +121,9 @@ module _ (xs : List ℕ) where
         → (length xs ≡ 2 + cardLength (after .version)) × (after .version < 256)
     turned-room = turned-over c e (card-fine h .head)
 
--- the first three rungs of a ladder as one code: a is what the first asks of other buffers
-pub card-rungs : (a : Bool) (xs : List ℕ) (rest : List (Bool × ℕ))
+-- the first three checks of a list of checks as one code: a is what the first asks of other buffers
+pub card-checks : (a : Bool) (xs : List ℕ) (rest : List (Bool × ℕ))
     → first 0 ((a && cardSized xs, 1) ∷ (cardHead xs, 2) ∷ (cardFits (readCard xs), 3) ∷ rest)
     ≡ cond a (ifZero (cardFault xs) (first 0 rest) (cardFault xs)) 1
 unfolding cardFault
-card-rungs a xs rest = fault-rungs a (cardSized xs) (cardHead xs) (cardFits (readCard xs)) rest
+card-checks a xs rest = fault-checks a (cardSized xs) (cardHead xs) (cardFits (readCard xs)) rest

@@ -7,7 +7,8 @@
 use Prim.Native.Nat.{ℕ}
 use mathlib.Core.List.{List, [], _∷_, _++_}
 use Rattle.octets.specs.Octets.{be}
-use Rattle.scheme.specs.Ladder.{first}
+use Rattle.counts.specs.Codes.{wrongLength, badHeader, outOfLimits}
+use Rattle.scheme.specs.Checks.{first}
 use Rattle.scheme.specs.Records as S
 use Rattle.cards.specs.declared.Card.{Card}
 
@@ -55,8 +56,8 @@ askBytes c = be 8 (c .last) ++ be 8 (c .pending) ++ be 4 (c .count)
 
 -- "1 for buffers of fixed size, 2"
 unfoldable pub headFault : List ℕ → ℕ
-headFault xs = first 0 ((S.cardSized xs, 1) ∷ (S.cardHead xs, 2) ∷ [])
+headFault xs = first 0 ((S.cardSized xs, wrongLength) ∷ (S.cardHead xs, badHeader) ∷ [])
 
 -- and then "3"
 unfoldable pub cardFault : List ℕ → ℕ
-cardFault xs = first 0 ((S.cardSized xs, 1) ∷ (S.cardHead xs, 2) ∷ (S.cardFits (S.readCard xs), 3) ∷ [])
+cardFault xs = first 0 ((S.cardSized xs, wrongLength) ∷ (S.cardHead xs, badHeader) ∷ (S.cardFits (S.readCard xs), outOfLimits) ∷ [])

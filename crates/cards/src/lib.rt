@@ -8,7 +8,9 @@ ghost use Prim.Native.Nat.{_+_, _-_, _≤_, _<_};
 ghost use lib.Dec.{eqb};
 ghost use lib.ListN.{length, getD};
 ghost use Rattle.octets.specs.Octets.{be, ofBe, part, put};
-ghost use Rattle.scheme.specs.Ladder as L;
+ghost use Rattle.counts.specs.Sizes.{cardSize, twoStepCardSize};
+ghost use Rattle.counts.specs.Limits.{mostCounter};
+ghost use Rattle.scheme.specs.Checks as L;
 ghost use Rattle.scheme.specs.Records as S;
 ghost use Rattle.scheme.specs.Calls.{turnedCard};
 ghost use Rattle.scheme.specs.Changes.{askedCard, committedCard, droppedCard};
@@ -44,16 +46,16 @@ pub fn card_length(version: u64) -> u64
     ensures { λ r. ⌜ (r ≡ S.cardLength version) × (r ≤ 61) ⌝ }
 {
     if version == 3 {
-        return 61;
+        return counts::lengths::TWO_STEP_CARD;
     }
-    41
+    counts::lengths::CARD
 }
 
 // Whether a card has the size of one version or another.
 pub fn sized(s: &[u8]) -> bool
     ensures { λ r. ⌜ r ≡ S.cardSized (now (s .entry)) ⌝ }
 {
-    (s.len() == 43) | (s.len() == 63)
+    (s.len() == counts::sizes::CARD) | (s.len() == counts::sizes::TWO_STEP_CARD)
 }
 
 // Whether a card of at least three bytes bears a version that there is, and has the length field and the size of that version.
@@ -68,7 +70,7 @@ pub fn head_fits(s: &[u8]) -> bool
 
 // What a card tells of asks in the bytes behind its open token. Versions 1 and 2 have none there, and read as nothing pending and the counter last issued.
 fn read_asks(s: &[u8], version: u64, counter: u64) -> Asks
-    requires { ⌜ (version ≡ 3 → 63 ≤ length (now s)) ⌝ }
+    requires { ⌜ (version ≡ 3 → twoStepCardSize ≤ length (now s)) ⌝ }
     ensures { λ r. ⌜ r .last ≡ cond (eqb version 3) (ofBe (part 43 8 (now (s .entry)))) counter ⌝ }
     ensures { λ r. ⌜ (r .pending ≡ cond (eqb version 3) (ofBe (part 51 8 (now (s .entry)))) 0) × (r .count ≡ cond (eqb version 3) (ofBe (part 59 4 (now (s .entry)))) 0) ⌝ }
 {
@@ -88,7 +90,7 @@ fn read_asks(s: &[u8], version: u64, counter: u64) -> Asks
 
 // The card in 43 bytes, in version 3 in 63.
 pub fn read_card(s: &[u8]) -> Card
-    requires { ⌜ (43 ≤ length (now s)) × (getD (now s) 2 0 ≡ 3 → 63 ≤ length (now s)) ⌝ }
+    requires { ⌜ (cardSize ≤ length (now s)) × (getD (now s) 2 0 ≡ 3 → twoStepCardSize ≤ length (now s)) ⌝ }
     ensures { λ r. ⌜ cardOf r ≡ S.readCard (now (s .entry)) ⌝ }
 {
     let version = records::version_in(s);
@@ -127,10 +129,10 @@ fn turn_fits(tokens: u64, next: u64, open_token: u64) -> bool
 fn asks_fit(c: Card) -> bool
     ensures { λ r. ⌜ r ≡ S.asksFit (cardOf c) ⌝ }
 {
-    let issued = records::within(c.counter, 4294967295, c.last);
+    let issued = records::within(c.counter, counts::limits::MOST_COUNTER, c.last);
     let none = (c.pending == 0) & (c.count == 0);
     let newest = (c.pending == c.last) & (c.counter < c.pending);
-    let kept = records::within(c.blocks, 16777216, c.count);
+    let kept = records::within(c.blocks, counts::limits::MOST_BLOCKS, c.count);
     issued & (none | (newest & kept & (c.open_token == 0)))
 }
 
@@ -143,7 +145,7 @@ pub fn card_fits(c: Card) -> bool
     let blocks = records::blocks_fit(c.blocks);
     let turn = turn_fits(c.tokens, c.next, c.open_token);
     let asks = asks_fit(c);
-    shape & tokens & blocks & (c.counter <= 4294967295) & turn & asks
+    shape & tokens & blocks & (c.counter <= counts::limits::MOST_COUNTER) & turn & asks
 }
 
 // The code of a lent card's size and head: 1 for a length that no card has, 2 for a version that there is not, or a length field or a size that is not
@@ -153,11 +155,11 @@ pub fn check_head(s: &[u8]) -> u64
 {
     let some = sized(s);
     if !some {
-        return 1;
+        return counts::codes::WRONG_LENGTH;
     }
     let head = head_fits(s);
     if !head {
-        return 2;
+        return counts::codes::WRONG_HEADER;
     }
     0
 }
@@ -173,7 +175,7 @@ pub fn check_card(s: &[u8]) -> u64
     let c = read_card(s);
     let fits = card_fits(c);
     if !fits {
-        return 3;
+        return counts::codes::OUT_OF_LIMITS;
     }
     0
 }
@@ -201,7 +203,7 @@ fn with_asks(c: Card, last: u64, pending: u64, count: u64) -> Card
 
 // The card while a change to so many blocks is pending: it takes the counter behind the last issued.
 pub fn asked(c: Card, blocks: u64) -> Card
-    requires { ⌜ c .last < 4294967295 ⌝ }
+    requires { ⌜ c .last < mostCounter ⌝ }
     ensures { λ r. ⌜ cardOf r ≡ askedCard (cardOf c) blocks ⌝ }
 {
     let issued = c.last + 1;
@@ -227,7 +229,7 @@ pub fn dropped(c: Card) -> Card
 
 // Writes what every card begins with over the first 43 bytes.
 fn put_front(s: &mut [u8], c: Card)
-    requires { ⌜ (43 ≤ length (now s)) × (c .version < 256) ⌝ }
+    requires { ⌜ (cardSize ≤ length (now s)) × (c .version < 256) ⌝ }
     ensures { λ _. ⌜ now (s .exit) ≡ put 0 (frontBytes (cardOf c)) (now (s .entry)) ⌝ }
 {
     let id = c.id;
@@ -243,7 +245,7 @@ fn put_front(s: &mut [u8], c: Card)
 
 // Writes what a card of version 3 tells of asks over the 20 bytes behind these.
 fn put_asks(s: &mut [u8], last: u64, pending: u64, count: u64)
-    requires { ⌜ 63 ≤ length (now s) ⌝ }
+    requires { ⌜ twoStepCardSize ≤ length (now s) ⌝ }
     ensures { λ _. ⌜ now (s .exit) ≡ put 43 (be 8 last ++ be 8 pending ++ be 4 count) (now (s .entry)) ⌝ }
 {
     octets::put_be8(s, 43, last);

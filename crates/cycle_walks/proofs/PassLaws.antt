@@ -27,7 +27,7 @@ use Rattle.cycle_walks.specs.Along.{Reached, Underway, Kept, Passed}
 use Rattle.cycle_walks.proofs.EachLaws.{set-more}
 use Rattle.cycle_walks.proofs.SumLaws.{sum-before, sum-more}
 use Rattle.cycle_walks.proofs.PlaceLaws.{one-at-most}
-use Rattle.cycle_walks.proofs.CourseLaws.{wide, ahead-is, ahead-home, turns-more}
+use Rattle.cycle_walks.proofs.WalkingLaws.{wide, ahead-is, ahead-home, turns-more}
 
 module _ (key : List ℕ) (d : ℕ) where
   pub reached-row : {v : ℕ} → v < d → Reached key d v

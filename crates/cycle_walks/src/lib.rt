@@ -10,7 +10,7 @@ ghost use lib.Dec.{leb};
 ghost use lib.ListN.{length, take, getD};
 ghost use Rattle.permutation.specs.Rounds.{half};
 ghost use Rattle.permutation.specs.Table.{Whole, Tabled};
-ghost use Rattle.cycle_walks.specs.Each.{Below, Backed, Course, turnsOf, going};
+ghost use Rattle.cycle_walks.specs.Each.{Below, Backed, Walking, turnsOf, going};
 ghost use Rattle.cycle_walks.specs.Along.{turnsAlong, Underway, Kept, Onward};
 
 // One more where the walk that is at v goes on.
@@ -38,7 +38,7 @@ fn first_turns(
     requires { ⌜ (h ≡ half d) × (d ≤ 1048576) × Whole key h (now table) × (n ≤ 256) × Below d n (now xs) ⌝ }
     requires { ⌜ (n ≤ length (now xs)) × (n ≤ length (now ends)) × (length (now places) ≡ 256) ⌝ }
     ensures { λ r. ⌜ (r ≤ n) × (take r (now (places .exit)) ≡ going d (now (ends .exit)) n 0) ⌝ }
-    ensures { λ r. ⌜ Below (4 ^ h) n (now (ends .exit)) × Course key d n (now (xs .entry)) (now (ends .exit)) n ⌝ }
+    ensures { λ r. ⌜ Below (4 ^ h) n (now (ends .exit)) × Walking key d n (now (xs .entry)) (now (ends .exit)) n ⌝ }
 {
     let mut left: usize = 0;
     let mut i: usize = 0;
@@ -66,7 +66,7 @@ fn next_turns(
     requires { ⌜ (h ≡ half d) × (d ≤ 1048576) × Whole key h (now table) × (n ≤ 256) × (left ≤ n) ⌝ }
     requires { ⌜ (n ≤ length (now ends)) × (length (now places) ≡ 256) × Below (4 ^ h) n (now ends) × (take left (now places) ≡ going d (now ends) n 0) ⌝ }
     ensures { λ r. ⌜ (r ≤ left) × (take r (now (places .exit)) ≡ going d (now (ends .exit)) n 0) × Below (4 ^ h) n (now (ends .exit)) ⌝ }
-    ensures { λ _. ⌜ ((xs : List ℕ) (t : ℕ) → Below d n xs → Course key d n xs (now (ends .entry)) t → Course key d n xs (now (ends .exit)) (t + left)) ⌝ }
+    ensures { λ _. ⌜ ((xs : List ℕ) (t : ℕ) → Below d n xs → Walking key d n xs (now (ends .entry)) t → Walking key d n xs (now (ends .exit)) (t + left)) ⌝ }
 {
     let mut still: usize = 0;
     let mut at: usize = 0;

@@ -2,7 +2,7 @@
 --   bytes-few         as many bytes as the limits allow
 --   mark-taken        the mark of a block, as the code reads it
 --   row-up            with more blocks a row has no fewer columns
---   seated            a column that a row has, and the blocks before do not reach, holds a block of the buffer
+--   located            a column that a row has, and the blocks before do not reach, holds a block of the buffer
 --   block-behind      a block behind others, by its place
 use Prim.Native.Nat.{ℕ, zero, suc, _+_, _*_, _-_, _≤_, _<_}
 use native.Mathlib.Omega.{arith}
@@ -15,8 +15,8 @@ use lib.Seq.{getD-append-add}
 use Rattle.octets.specs.Octets.{part}
 use Rattle.octets.proofs.PartLaws.{part-more}
 use Rattle.scheme.specs.Tokens.{blockIn, columnsOf, blockAt}
-use Rattle.scheme.proofs.GeometryLaws.{in-blocks, columns-up, behind-blocks}
-use Rattle.digests.specs.Layout.{contents, contentAt, Lies, Row, Seat, behind, place}
+use Rattle.scheme.proofs.laws.GeometryLaws.{in-blocks, columns-up, behind-blocks}
+use Rattle.digests.specs.Layout.{contents, contentAt, Lies, Row, Located, behind, place}
 use Rattle.digests.specs.declared.Span.{Span}
 use Rattle.digests.proofs.ContentLaws.{content-at}
 
@@ -53,8 +53,8 @@ module _ (b : Span) (n ρ q : ℕ) (xs marks : List ℕ) (lies : Lies b xs marks
   unfolding place blockIn
   there-few = omega (arith, below, above, row .from-one)
 
-  pub seated : Seat b n ρ q xs marks
-  seated =
+  pub located : Located b n ρ q xs marks
+  located =
       let end : place b n ρ q * b .size + b .size ≤ b .count * b .size =
       le-trans (omega (arith, suc-mul (place b n ρ q) (b .size))) (mul-le-mul-right {m = suc (place b n ρ q)} {n = b .count} (b .size) (omega (arith, there-few))) in
       record {

@@ -2,8 +2,6 @@
 --   contents-long, content-at      how many there are, and one of them
 --   contents-live                  all blocks are live: the mark that is lent is the byte 0
 --   contents-marked                marks are lent, one for each block
---   contents-plain                 version 1: there are no marks
---   marked-plain                   .. and none put before blocks leave them as they are
 --   told-live, told-marked         every mark lies in the buffer
 use Prim.Native.Nat.{ℕ, zero, suc, _+_, _*_, _≤_, _<_}
 use native.Mathlib.Omega.{arith}
@@ -15,7 +13,7 @@ use lib.Seq.{drop-drop}
 use Rattle.octets.specs.Octets.{part}
 use Rattle.scheme.specs.Lists.{pieces}
 use Rattle.scheme.specs.Marks.{marksIn, live, marked, alike}
-use Rattle.scheme.proofs.TableLaws.{pieces-at, pieces-length}
+use Rattle.scheme.proofs.laws.TableLaws.{pieces-at, pieces-length}
 use Rattle.tokens.proofs.HeadLaws.{live-mark}
 use Rattle.digests.specs.Layout.{spaced, contents, contentAt}
 use Rattle.digests.specs.declared.Span.{Span}
@@ -60,11 +58,6 @@ unfolding marked alike spaced
 marked-alike k marks [] = refl
 marked-alike k marks (x ∷ xs) = ap (λ (l : List (List ℕ)). (take k marks ++ x) ∷ l) (marked-alike k marks xs)
 
-alike-none : (xs : List (List ℕ)) → alike [] xs ≡ xs
-unfolding alike
-alike-none [] = refl
-alike-none (x ∷ xs) = ap (λ (l : List (List ℕ)). x ∷ l) (alike-none xs)
-
 module _ (b : Span) (xs marks : List ℕ) where
   abbrev blocks : List (List ℕ)
   blocks = pieces (b .size) (b .count) xs
@@ -95,19 +88,11 @@ module _ (b : Span) (xs marks : List ℕ) where
   contents-marked each =
       ap (λ (s : ℕ). marked (spaced s (b .mark) (b .count) marks) blocks) each ∙ ap (λ (l : List (List ℕ)). marked l blocks) (spaced-pieces (b .mark) (b .count) marks)
 
-  pub contents-plain : b .step ≡ 0 → b .mark ≡ 0 → contents b xs marks ≡ blocks
-  contents-plain near none = contents-alike near ∙ ap (λ (k : ℕ). alike (take k marks) blocks) none ∙ alike-none blocks
-
 pub contents-live : (v : ℕ) (b : Span) (xs : List ℕ) → b .step ≡ 0 → b .mark ≡ marksIn v
     → contents b xs (0 ∷ []) ≡ alike (live v) (pieces (b .size) (b .count) xs)
 contents-live v b xs near one =
     contents-alike b xs (0 ∷ []) near
     ∙ ap (λ (m : List ℕ). alike m (pieces (b .size) (b .count) xs)) (ap (λ (k : ℕ). take {A = ℕ} k (0 ∷ [])) one ∙ live-mark v)
-
-pub marked-plain : (B n : ℕ) (xs marks : List ℕ) → marked (pieces 0 n marks) (pieces B n xs) ≡ pieces B n xs
-marked-plain B n xs marks =
-    let b : Span = record { rows = 0; size = B; count = n; mark = 0; step = 0 } in
-    sym (contents-marked b xs marks refl) ∙ contents-plain b xs marks refl refl
 
 pub told-live : (b : Span) → b .step ≡ 0 → b .mark ≤ 1 → (e : ℕ) → e < b .count → e * b .step + b .mark ≤ length {A = ℕ} (0 ∷ [])
 told-live b near lone e h =

@@ -5,7 +5,7 @@
 --   Row d ρ                   ρ is one of d rows
 --   behind n blocks           blocks that come behind n others, whose contents are not looked at
 --   place b n ρ q             how many blocks of the buffer come before the one in row ρ and column q
---   Seat b n ρ q xs marks     the block in row ρ and column q lies in xs, and its mark in marks
+--   Located b n ρ q xs marks     the block in row ρ and column q lies in xs, and its mark in marks
 --   contentAt b e xs marks    the content of the block that e others of the buffer come before
 --   hashAt c b n ρ j q xs marks    the hash of the one in row ρ and column q at position j, under the key c
 use Prim.Native.Nat.{ℕ, zero, suc, _+_, _*_, _-_, _≤_, _<_}
@@ -13,6 +13,7 @@ use mathlib.Core.List.{List, [], _∷_, _++_}
 use mathlib.Core.Path.{_≡_}
 use lib.ListN.{length, take, drop, replicate}
 use Rattle.octets.specs.Octets.{part}
+use Rattle.counts.specs.Limits.{mostBlockBytes, mostRows, mostBlocks}
 use Rattle.scheme.specs.Lists.{pieces}
 use Rattle.scheme.specs.Marks.{marked}
 use Rattle.scheme.specs.Tokens.{blockIn, indexOf, blockHash}
@@ -31,9 +32,9 @@ contents b xs marks = marked (spaced (b .step) (b .mark) (b .count) marks) (piec
 -- "B, bytes in a block | 1 | 4,096", "d, rows | 1 | 1,048,576", "n, blocks | 1 | 16,777,216", as far as the code asks for them
 pub record Lies (b : Span) (xs marks : List ℕ) : Type 0 where
   pub rowed : 1 ≤ b .rows
-  pub few-rows : b .rows ≤ 1048576
-  pub small : b .size ≤ 4096
-  pub few : b .count ≤ 16777216
+  pub few-rows : b .rows ≤ mostRows
+  pub small : b .size ≤ mostBlockBytes
+  pub few : b .count ≤ mostBlocks
   pub whole : length xs ≡ b .count * b .size
   pub lone : b .mark ≤ 1
   pub told : (e : ℕ) → e < b .count → e * b .step + b .mark ≤ length marks
@@ -48,10 +49,10 @@ behind n blocks = replicate n [] ++ blocks
 unfoldable pub place : Span → ℕ → ℕ → ℕ → ℕ
 place b n ρ q = blockIn (b .rows) ρ q - n - 1
 
-pub record Seat (b : Span) (n ρ q : ℕ) (xs marks : List ℕ) : Type 0 where
+pub record Located (b : Span) (n ρ q : ℕ) (xs marks : List ℕ) : Type 0 where
   pub later : n < q * b .rows + ρ
-  pub few : q * b .rows + ρ ≤ 16777216
-  pub small : b .size ≤ 4096
+  pub few : q * b .rows + ρ ≤ mostBlocks
+  pub small : b .size ≤ mostBlockBytes
   pub lone : b .mark ≤ 1
   pub inside : place b n ρ q * b .size + b .size ≤ length xs
   pub told : place b n ρ q * b .step + b .mark ≤ length marks

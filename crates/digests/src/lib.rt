@@ -1,5 +1,5 @@
 // The digest of all positions, which set-up seals as a token and the host answers, and what blocks that come behind others make of a digest, each with
-// the work that it took. Blocks are hashed position by position, in a row from the newest column back to the oldest, and several at once, each with its
+// its totals. Blocks are hashed position by position, in a row from the newest column back to the oldest, and several at once, each with its
 // mark before it where it has one.
 // Every function equals a definition of specs/ or of the scheme's Tokens and Totals at the standard primitives. Nothing is assumed.
 ghost use mathlib.Core.Path.{_≡_};
@@ -7,15 +7,16 @@ ghost use mathlib.Core.List.{[], _∷_};
 ghost use Prim.Native.Nat.{_+_, _*_, _^_, _≤_, _<_};
 ghost use lib.ListN.{length, take};
 ghost use Rattle.octets.specs.Octets.{xors, part};
+ghost use Rattle.counts.specs.Limits.{mostPositions, mostBlocks};
 ghost use Rattle.sha256.specs.Sha256 as S;
 ghost use Rattle.chacha20.specs.ChaCha20.{keyWords};
 ghost use Rattle.permutation.specs.Rounds.{half};
 ghost use Rattle.permutation.specs.Table.{Tabled};
 ghost use Rattle.scheme.specs.Tokens as T;
-ghost use Rattle.scheme.specs.Totals.{digestTurns, digestHashes, workHashes};
+ghost use Rattle.scheme.specs.Totals.{digestTurns, digestHashes, tokenHashes};
 ghost use Rattle.standard.specs.Standard.{standard};
-ghost use Rattle.digests.specs.Layout.{Lies, Row, Seat, contents, behind, place, hashAt};
-ghost use Rattle.hash_queue.specs.Waiting.{Cut, Sound, held};
+ghost use Rattle.digests.specs.Layout.{Lies, Row, Located, contents, behind, place, hashAt};
+ghost use Rattle.hash_queue.specs.Waiting.{Cut, Sound, flushed};
 
 // How blocks lie: `count` blocks of `size` bytes in so many rows. The mark of a block has `mark` bytes, none in version 1 and one in the others, and lies
 // `step` bytes behind that of the block before: none where one mark stands for all blocks.
@@ -29,8 +30,8 @@ pub struct Span {
 
 // How many blocks of the buffer, which come behind `before` others, come before the one in a row and a column.
 fn place_of(b: Span, before: u64, row: counts::Row, column: u64) -> u64
-    requires { ⌜ (before < column * b .rows + row .0) × (column * b .rows + row .0 ≤ 16777216) ⌝ }
-    ensures { λ r. ⌜ (r ≡ place b before (row .0) column) × (r < 16777216) ⌝ }
+    requires { ⌜ (before < column * b .rows + row .0) × (column * b .rows + row .0 ≤ mostBlocks) ⌝ }
+    ensures { λ r. ⌜ (r ≡ place b before (row .0) column) × (r < mostBlocks) ⌝ }
 {
     let m = tokens::block_in(b.rows, row, column);
     m.0 - before - 1
@@ -74,8 +75,8 @@ fn add_block(
     p: &mut [u8],
     at: &mut [usize; 16],
 ) -> hash_queue::Sum
-    requires { ⌜ Sound s f (now blocks) (now at) × Cut f (36 + b .mark) (b .size) × Seat b before (row .0) column (now blocks) (now marks) × (j .0 < 2 ^ 32) × (now pad ≡ S.padding (36 + b .mark + b .size)) × (length (now p) ≡ 3072) ⌝ }
-    ensures { λ r. ⌜ Sound r f (now (blocks .entry)) (now (at .exit)) × (held r f (now (blocks .entry)) (now (at .exit)) (now (p .exit)) ≡ xors (held s f (now (blocks .entry)) (now (at .entry)) (now (p .entry))) (hashAt c b before (row .0) (j .0) column (now (blocks .entry)) (now (marks .entry)))) ⌝ }
+    requires { ⌜ Sound s f (now blocks) (now at) × Cut f (36 + b .mark) (b .size) × Located b before (row .0) column (now blocks) (now marks) × (j .0 < 2 ^ 32) × (now pad ≡ S.padding (36 + b .mark + b .size)) × (length (now p) ≡ 3072) ⌝ }
+    ensures { λ r. ⌜ Sound r f (now (blocks .entry)) (now (at .exit)) × (flushed r f (now (blocks .entry)) (now (at .exit)) (now (p .exit)) ≡ xors (flushed s f (now (blocks .entry)) (now (at .entry)) (now (p .entry))) (hashAt c b before (row .0) (j .0) column (now (blocks .entry)) (now (marks .entry)))) ⌝ }
 {
     let index = tokens::index_of(b.rows, column, j);
     let e = place_of(b, before, row, column);
@@ -104,8 +105,8 @@ fn add_row(
     at: &mut [usize; 16],
 ) -> hash_queue::Sum
     requires { ⌜ Sound s f (now blocks) (now at) × Cut f (36 + b .mark) (b .size) × Lies b (now blocks) (now marks) × Row (b .rows) (row .0) × (j .0 < 2 ^ 32) × (now pad ≡ S.padding (36 + b .mark + b .size)) × (length (now p) ≡ 3072) ⌝ }
-    requires { ⌜ (before + b .count ≤ 16777216) × (T.columnsOf (b .rows) before (row .0) ≤ oldest) × (oldest ≤ T.columnsOf (b .rows) (before + b .count) (row .0)) ⌝ }
-    ensures { λ r. ⌜ Sound r f (now (blocks .entry)) (now (at .exit)) × (held r f (now (blocks .entry)) (now (at .exit)) (now (p .exit)) ≡ xors (held s f (now (blocks .entry)) (now (at .entry)) (now (p .entry))) (T.rowFrom standard c (b .rows) (row .0) (j .0) (behind before (contents b (now (blocks .entry)) (now (marks .entry)))) oldest)) ⌝ }
+    requires { ⌜ (before + b .count ≤ mostBlocks) × (T.columnsOf (b .rows) before (row .0) ≤ oldest) × (oldest ≤ T.columnsOf (b .rows) (before + b .count) (row .0)) ⌝ }
+    ensures { λ r. ⌜ Sound r f (now (blocks .entry)) (now (at .exit)) × (flushed r f (now (blocks .entry)) (now (at .exit)) (now (p .exit)) ≡ xors (flushed s f (now (blocks .entry)) (now (at .entry)) (now (p .entry))) (T.rowFrom standard c (b .rows) (row .0) (j .0) (behind before (contents b (now (blocks .entry)) (now (marks .entry)))) oldest)) ⌝ }
 {
     let mut sum = s;
     let mut q = tokens::columns_of(b.rows, before + b.count, row);
@@ -116,7 +117,7 @@ fn add_row(
     sum
 }
 
-// What blocks that come behind `before` others make of a digest x, under the keys k and c, and its work. The table is empty, or has all values of the
+// What blocks that come behind `before` others make of a digest x, under the keys k and c, and its totals. The table is empty, or has all values of the
 // round function under k; p is room for what waits to be hashed, cut as f says, and pad its padding.
 fn grown_in(
     k: [u8; 32],
@@ -131,10 +132,10 @@ fn grown_in(
     f: hash_queue::Form,
     pad: &[u8],
     p: &mut [u8],
-) -> counts::Worked
-    requires { ⌜ Lies b (now blocks) (now marks) × (before + b .count ≤ 16777216) × (positions ≤ b .rows) × Tabled (keyWords k) (half (b .rows)) (now table) × Cut f (36 + b .mark) (b .size) × (now pad ≡ S.padding (36 + b .mark + b .size)) × (length (now p) ≡ 3072) ⌝ }
-    ensures { λ r. ⌜ r .digest ≡ T.workedDigest standard k c (b .rows) positions (T.addedFrom (before + 1) (contents b (now (blocks .entry)) (now (marks .entry)))) x ⌝ }
-    ensures { λ r. ⌜ (r .turns ≡ digestTurns standard k (b .rows) positions) × (r .hashes ≡ workHashes standard k (b .rows) positions (T.addedFrom (before + 1) (contents b (now (blocks .entry)) (now (marks .entry))))) ⌝ }
+) -> counts::DigestTotals
+    requires { ⌜ Lies b (now blocks) (now marks) × (before + b .count ≤ mostBlocks) × (positions ≤ b .rows) × Tabled (keyWords k) (half (b .rows)) (now table) × Cut f (36 + b .mark) (b .size) × (now pad ≡ S.padding (36 + b .mark + b .size)) × (length (now p) ≡ 3072) ⌝ }
+    ensures { λ r. ⌜ r .digest ≡ T.digestAfter standard k c (b .rows) positions (T.addedFrom (before + 1) (contents b (now (blocks .entry)) (now (marks .entry)))) x ⌝ }
+    ensures { λ r. ⌜ (r .turns ≡ digestTurns standard k (b .rows) positions) × (r .hashes ≡ tokenHashes standard k (b .rows) positions (T.addedFrom (before + 1) (contents b (now (blocks .entry)) (now (marks .entry))))) ⌝ }
 {
     let words = chacha20::key_words(&k);
     let mut at = [0usize; 16];
@@ -167,15 +168,15 @@ fn grown_in(
         drawn += 1;
     }
     let digest = hash_queue::settled(sum, f, blocks, &at, p);
-    counts::Worked {
+    counts::DigestTotals {
         digest,
         turns,
         hashes,
     }
 }
 
-// What blocks that come behind `before` others make of a digest x, under the keys k and c. The work is that of the positions: the turns of their walks,
-// and a hash for each new block of a row drawn. The table is empty, or has all values of the round function under k; p is room to work in.
+// What blocks that come behind `before` others make of a digest x, under the keys k and c. The totals are those of the positions: the turns of their walks,
+// and a hash for each new block of a row drawn. The table is empty, or has all values of the round function under k; p is scratch space.
 pub fn grown(
     k: [u8; 32],
     c: [u8; 32],
@@ -187,10 +188,10 @@ pub fn grown(
     marks: &[u8],
     x: [u8; 32],
     p: &mut [u8],
-) -> counts::Worked
-    requires { ⌜ Lies b (now blocks) (now marks) × (before + b .count ≤ 16777216) × (positions ≤ b .rows) × Tabled (keyWords k) (half (b .rows)) (now table) × (length (now p) ≡ 3072) ⌝ }
-    ensures { λ r. ⌜ r .digest ≡ T.workedDigest standard k c (b .rows) positions (T.addedFrom (before + 1) (contents b (now (blocks .entry)) (now (marks .entry)))) x ⌝ }
-    ensures { λ r. ⌜ (r .turns ≡ digestTurns standard k (b .rows) positions) × (r .hashes ≡ workHashes standard k (b .rows) positions (T.addedFrom (before + 1) (contents b (now (blocks .entry)) (now (marks .entry))))) ⌝ }
+) -> counts::DigestTotals
+    requires { ⌜ Lies b (now blocks) (now marks) × (before + b .count ≤ mostBlocks) × (positions ≤ b .rows) × Tabled (keyWords k) (half (b .rows)) (now table) × (length (now p) ≡ 3072) ⌝ }
+    ensures { λ r. ⌜ r .digest ≡ T.digestAfter standard k c (b .rows) positions (T.addedFrom (before + 1) (contents b (now (blocks .entry)) (now (marks .entry)))) x ⌝ }
+    ensures { λ r. ⌜ (r .turns ≡ digestTurns standard k (b .rows) positions) × (r .hashes ≡ tokenHashes standard k (b .rows) positions (T.addedFrom (before + 1) (contents b (now (blocks .entry)) (now (marks .entry))))) ⌝ }
 {
     let h = head_length(b);
     let padding = sha256::pad(h as u64 + b.size);
@@ -213,7 +214,7 @@ pub fn grown(
     )
 }
 
-// The digest of all positions under the keys k and c, over blocks and their marks: what set-up seals as a token, and what the host answers. Its work is
+// The digest of all positions under the keys k and c, over blocks and their marks: what set-up seals as a token, and what the host answers. Its totals are
 // what the definition counts: a table of the round function saves no turn, and what lanes compute besides is no hash.
 pub fn digest(
     k: [u8; 32],
@@ -222,8 +223,8 @@ pub fn digest(
     positions: u64,
     blocks: &[u8],
     marks: &[u8],
-) -> counts::Worked
-    requires { ⌜ Lies b (now blocks) (now marks) × (positions ≤ b .rows) × (positions ≤ 512) ⌝ }
+) -> counts::DigestTotals
+    requires { ⌜ Lies b (now blocks) (now marks) × (positions ≤ b .rows) × (positions ≤ mostPositions) ⌝ }
     ensures { λ r. ⌜ r .digest ≡ T.digest standard k c (b .rows) positions (contents b (now (blocks .entry)) (now (marks .entry))) ⌝ }
     ensures { λ r. ⌜ (r .turns ≡ digestTurns standard k (b .rows) positions) × (r .hashes ≡ digestHashes standard k (b .rows) positions (b .count)) ⌝ }
 {

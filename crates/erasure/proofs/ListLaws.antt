@@ -1,5 +1,5 @@
--- Lists made of a function, and what blocks laid end to end hold. Assumes nothing.
---   made-length, getD-made, made-of, made-same   a list is made of f where it holds f's values
+-- Lists tabulate of a function, and what blocks laid end to end hold. Assumes nothing.
+--   made-length, getD-made, made-of, made-same   a list is tabulate of f where it holds f's values
 --   Filled, filled-more, filled-made     one more block is in place
 --   map-at                               an element of a map
 --   map-same                             two functions that agree where they are asked
@@ -14,33 +14,33 @@ use lib.Dec.{ltb}
 use lib.ListN.{length, getD, take, drop, List·getD-append}
 use lib.Seq.{ext-getD, getD-take, getD-append-add, length-take-le}
 use Rattle.cauchy.specs.System.{Each}
-use Rattle.erasure.specs.Group.{madeFrom, made}
+use Rattle.erasure.specs.Group.{tabulateFrom, tabulate}
 
-from-length : (i n : ℕ) (f : ℕ → ℕ) → length (madeFrom i n f) ≡ n
-unfolding madeFrom
+from-length : (i n : ℕ) (f : ℕ → ℕ) → length (tabulateFrom i n f) ≡ n
+unfolding tabulateFrom
 from-length i zero f = refl
 from-length i (suc n) f = ap suc (from-length (suc i) n f)
 
-from-at : (i n j : ℕ) (f : ℕ → ℕ) → j < n → getD (madeFrom i n f) j 0 ≡ f (i + j)
-unfolding madeFrom
+from-at : (i n j : ℕ) (f : ℕ → ℕ) → j < n → getD (tabulateFrom i n f) j 0 ≡ f (i + j)
+unfolding tabulateFrom
 from-at i zero j f h = absurd (omega arith)
 from-at i (suc n) zero f h = ap f (sym (add-zero i))
 from-at i (suc n) (suc j) f h = from-at (suc i) n j f (omega arith) ∙ ap f (suc-add i j ∙ sym (add-suc i j))
 
-pub made-length : (n : ℕ) (f : ℕ → ℕ) → length (made n f) ≡ n
-unfolding made
+pub made-length : (n : ℕ) (f : ℕ → ℕ) → length (tabulate n f) ≡ n
+unfolding tabulate
 made-length n f = from-length 0 n f
 
-pub getD-made : (n j : ℕ) (f : ℕ → ℕ) → j < n → getD (made n f) j 0 ≡ f j
-unfolding made
+pub getD-made : (n j : ℕ) (f : ℕ → ℕ) → j < n → getD (tabulate n f) j 0 ≡ f j
+unfolding tabulate
 getD-made n j f h = from-at 0 n j f h ∙ ap f (zero-add j)
 
-pub made-of : (n : ℕ) (f : ℕ → ℕ) (xs : List ℕ) → length xs ≡ n → ((i : ℕ) → i < n → getD xs i 0 ≡ f i) → xs ≡ made n f
+pub made-of : (n : ℕ) (f : ℕ → ℕ) (xs : List ℕ) → length xs ≡ n → ((i : ℕ) → i < n → getD xs i 0 ≡ f i) → xs ≡ tabulate n f
 made-of n f xs l h =
-    ext-getD 0 xs (made n f) (l ∙ sym (made-length n f)) (λ i k. h i (omega arith) ∙ sym (getD-made n i f (omega arith)))
+    ext-getD 0 xs (tabulate n f) (l ∙ sym (made-length n f)) (λ i k. h i (omega arith) ∙ sym (getD-made n i f (omega arith)))
 
-pub made-same : (n : ℕ) (f g : ℕ → ℕ) → ((i : ℕ) → i < n → f i ≡ g i) → made n f ≡ made n g
-made-same n f g h = made-of n g (made n f) (made-length n f) (λ i k. getD-made n i f k ∙ h i k)
+pub made-same : (n : ℕ) (f g : ℕ → ℕ) → ((i : ℕ) → i < n → f i ≡ g i) → tabulate n f ≡ tabulate n g
+made-same n f g h = made-of n g (tabulate n f) (made-length n f) (λ i k. getD-made n i f k ∙ h i k)
 
 pub map-same : (f g : ℕ → ℕ) (ns : List ℕ) → Each (λ n. f n ≡ g n) ns → map f ns ≡ map g ns
 map-same f g [] h = refl
@@ -75,5 +75,5 @@ filled-more at B k f xs ys e h l old new i r = go (ltb i at) refl
         ∙ List·getD-append ys (drop k (drop at xs)) 0 j (omega arith)
         ∙ new j (omega arith) ∙ ap f w
 
-pub filled-made : (n at : ℕ) (f : ℕ → ℕ) (xs : List ℕ) → length xs ≡ n → n ≤ at → Filled at f xs → xs ≡ made n f
+pub filled-made : (n at : ℕ) (f : ℕ → ℕ) (xs : List ℕ) → length xs ≡ n → n ≤ at → Filled at f xs → xs ≡ tabulate n f
 filled-made n at f xs l h g = made-of n f xs l (λ i k. g i (omega arith))

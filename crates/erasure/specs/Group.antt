@@ -1,7 +1,7 @@
 -- A group: data blocks, then parity blocks, each of B bytes, laid end to end. What a parity byte is, and what lost data bytes are, solved from parity
 -- bytes. Assumes nothing.
 -- #114: "Blocks are numbered data first, from 0".
---   made n f              the n numbers f 0, f 1 and so on
+--   tabulate n f              the n numbers f 0, f 1 and so on
 --   byteAt B t xs n       the byte at t of block n
 --   count n c             the c numbers from n on
 --   parityByte B k xs u t the byte at t of the parity block numbered u, over the k data blocks of xs
@@ -19,12 +19,12 @@ use lib.ListN.{getD}
 use Rattle.gf256.specs.Field.{plus}
 use Rattle.cauchy.specs.Solve.{row, solve}
 
-unfoldable pub madeFrom : ℕ → ℕ → (ℕ → ℕ) → List ℕ
-madeFrom i zero f = []
-madeFrom i (suc n) f = f i ∷ madeFrom (suc i) n f
+unfoldable pub tabulateFrom : ℕ → ℕ → (ℕ → ℕ) → List ℕ
+tabulateFrom i zero f = []
+tabulateFrom i (suc n) f = f i ∷ tabulateFrom (suc i) n f
 
-unfoldable pub made : ℕ → (ℕ → ℕ) → List ℕ
-made n f = madeFrom 0 n f
+unfoldable pub tabulate : ℕ → (ℕ → ℕ) → List ℕ
+tabulate n f = tabulateFrom 0 n f
 
 abbrev pub byteAt : ℕ → ℕ → List ℕ → ℕ → ℕ
 byteAt B t xs n = getD xs (n * B + t) 0
@@ -60,4 +60,4 @@ recovered at us vs qs = solve us vs (map (sumOf at qs) us)
 
 -- #114: "Groups of 1 to 48 data blocks get 1 to 16 parity blocks"
 unfoldable pub encoded : ℕ → ℕ → ℕ → List ℕ → List ℕ
-encoded B k p group = made (p * B) (λ i. parityByte B k group (k + i / B) (i % B))
+encoded B k p group = tabulate (p * B) (λ i. parityByte B k group (k + i / B) (i % B))

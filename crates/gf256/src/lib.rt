@@ -32,17 +32,17 @@ pub fn wide(x: u8) -> usize
 }
 
 // The logarithm of a, from the table.
-fn log_of(down: &[u8; 256], a: u8) -> usize
-    requires { ⌜ Logged (now down) ⌝ }
+fn log_of(log: &[u8; 256], a: u8) -> usize
+    requires { ⌜ Logged (now log) ⌝ }
     ensures { λ r. ⌜ (r < 255) × (1 ≤ a → doubled r 1 ≡ a) ⌝ }
 {
-    wide(down[a as usize])
+    wide(log[a as usize])
 }
 
 // The product of a and b. 0 has no logarithm.
-pub fn product(up: &[u8; 512], down: &[u8; 256], a: u8, b: u8) -> u8
-    requires { ⌜ now up ≡ powers ⌝ }
-    requires { ⌜ Logged (now down) ⌝ }
+pub fn product(exp: &[u8; 512], log: &[u8; 256], a: u8, b: u8) -> u8
+    requires { ⌜ now exp ≡ powers ⌝ }
+    requires { ⌜ Logged (now log) ⌝ }
     ensures { λ r. ⌜ r ≡ times a b ⌝ }
 {
     if a == 0 {
@@ -51,22 +51,22 @@ pub fn product(up: &[u8; 512], down: &[u8; 256], a: u8, b: u8) -> u8
     if b == 0 {
         return 0;
     }
-    let i = log_of(down, a);
-    let j = log_of(down, b);
-    up[i + j]
+    let i = log_of(log, a);
+    let j = log_of(log, b);
+    exp[i + j]
 }
 
 // The inverse of a, 0 for 0.
-pub fn inverted(up: &[u8; 512], down: &[u8; 256], a: u8) -> u8
-    requires { ⌜ now up ≡ powers ⌝ }
-    requires { ⌜ Logged (now down) ⌝ }
+pub fn inverted(exp: &[u8; 512], log: &[u8; 256], a: u8) -> u8
+    requires { ⌜ now exp ≡ powers ⌝ }
+    requires { ⌜ Logged (now log) ⌝ }
     ensures { λ r. ⌜ r ≡ inverse a ⌝ }
 {
     if a == 0 {
         return 0;
     }
-    let i = log_of(down, a);
-    up[255 - i]
+    let i = log_of(log, a);
+    exp[255 - i]
 }
 
 // m where the bit is 1, else 0.
@@ -78,18 +78,18 @@ fn picked(bit: u8, m: u8) -> u8
 }
 
 // The doubles of w, from the tables: w times 1, 2, 4 and so on to 128.
-fn doubles_of(up: &[u8; 512], down: &[u8; 256], w: u8) -> [u8; 8]
-    requires { ⌜ now up ≡ powers ⌝ }
-    requires { ⌜ Logged (now down) ⌝ }
+fn doubles_of(exp: &[u8; 512], log: &[u8; 256], w: u8) -> [u8; 8]
+    requires { ⌜ now exp ≡ powers ⌝ }
+    requires { ⌜ Logged (now log) ⌝ }
     ensures { λ r. ⌜ r ≡ doublesOf w ⌝ }
 {
-    let m1 = product(up, down, w, 2);
-    let m2 = product(up, down, w, 4);
-    let m3 = product(up, down, w, 8);
-    let m4 = product(up, down, w, 16);
-    let m5 = product(up, down, w, 32);
-    let m6 = product(up, down, w, 64);
-    let m7 = product(up, down, w, 128);
+    let m1 = product(exp, log, w, 2);
+    let m2 = product(exp, log, w, 4);
+    let m3 = product(exp, log, w, 8);
+    let m4 = product(exp, log, w, 16);
+    let m5 = product(exp, log, w, 32);
+    let m6 = product(exp, log, w, 64);
+    let m7 = product(exp, log, w, 128);
     [w, m1, m2, m3, m4, m5, m6, m7]
 }
 
@@ -108,13 +108,13 @@ fn spread(b: u8, m: &[u8; 8]) -> u8
 
 // Adds the block's bytes, weighed by w, to those of acc. The tables give the eight doubles of w once, and the loop only picks and sums, so that it
 // becomes code on many bytes at a time.
-pub fn mix(up: &[u8; 512], down: &[u8; 256], w: u8, block: &[u8], acc: &mut [u8])
-    requires { ⌜ now up ≡ powers ⌝ }
-    requires { ⌜ Logged (now down) ⌝ }
+pub fn mix(exp: &[u8; 512], log: &[u8; 256], w: u8, block: &[u8], acc: &mut [u8])
+    requires { ⌜ now exp ≡ powers ⌝ }
+    requires { ⌜ Logged (now log) ⌝ }
     requires { ⌜ length (now acc) ≡ length (now block) ⌝ }
     ensures { λ _. ⌜ now (acc .exit) ≡ zipped (mixedOne w) (now (block .entry)) (now (acc .entry)) ⌝ }
 {
-    let m = doubles_of(up, down, w);
+    let m = doubles_of(exp, log, w);
     let mut i: usize = 0;
     while i < block.len() {
         acc[i] = acc[i] ^ spread(block[i], &m);
@@ -124,23 +124,23 @@ pub fn mix(up: &[u8; 512], down: &[u8; 256], w: u8, block: &[u8], acc: &mut [u8]
 
 // Adds the block's bytes to those of one, weighed by v, and to those of two, weighed by w. The two share the tests of each byte's bits.
 pub fn mix_two(
-    up: &[u8; 512],
-    down: &[u8; 256],
+    exp: &[u8; 512],
+    log: &[u8; 256],
     v: u8,
     w: u8,
     block: &[u8],
     one: &mut [u8],
     two: &mut [u8],
 )
-    requires { ⌜ now up ≡ powers ⌝ }
-    requires { ⌜ Logged (now down) ⌝ }
+    requires { ⌜ now exp ≡ powers ⌝ }
+    requires { ⌜ Logged (now log) ⌝ }
     requires { ⌜ length (now one) ≡ length (now block) ⌝ }
     requires { ⌜ length (now two) ≡ length (now block) ⌝ }
     ensures { λ _. ⌜ now (one .exit) ≡ zipped (mixedOne v) (now (block .entry)) (now (one .entry)) ⌝ }
     ensures { λ _. ⌜ now (two .exit) ≡ zipped (mixedOne w) (now (block .entry)) (now (two .entry)) ⌝ }
 {
-    let m = doubles_of(up, down, v);
-    let n = doubles_of(up, down, w);
+    let m = doubles_of(exp, log, v);
+    let n = doubles_of(exp, log, w);
     let mut i: usize = 0;
     while i < block.len() {
         let b = block[i];

@@ -11,7 +11,7 @@ use lib.ListN.{length, set, take, drop}
 use Rattle.octets.specs.Octets.{xors, part}
 use Rattle.sha256.specs.Sha256.{padding, sha256}
 use Rattle.sha256_lanes.specs.Rounds.{Inside}
-use Rattle.hash_queue.specs.Waiting.{Cut, Sound, places, said, short, hashes, held}
+use Rattle.hash_queue.specs.Waiting.{Cut, Sound, places, said, short, hashes, flushed}
 use Rattle.hash_queue.specs.declared.Form.{Form}
 use Rattle.hash_queue.specs.declared.Sum.{Sum}
 use Rattle.hash_queue.proofs.MessageLaws.{joined-is, said-long}
@@ -41,7 +41,7 @@ module _ (s : Sum) (f : Form) (head far at p p′ pad ys : List ℕ) (a B : ℕ)
 
   pub block-waits : s .fill + 1 < places
       → Sound (record { x = s .x; fill = s .fill + 1 }) f far (set at (s .fill) (a + f .cut))
-      × (held (record { x = s .x; fill = s .fill + 1 }) f far (set at (s .fill) (a + f .cut)) p′ ≡ xors (held s f far at p) (sha256 (said head a B far)))
+      × (flushed (record { x = s .x; fill = s .fill + 1 }) f far (set at (s .fill) (a + f .cut)) p′ ≡ xors (flushed s f far at p) (sha256 (said head a B far)))
   block-waits b = (
     sound-waits s f (a + f .cut) far at sound left b,
     one-waits s f (a + f .cut) far at p p′ (said head a B far) pad ys (sound .known) (sound .free) room padded-said whole kept lent,
@@ -49,7 +49,7 @@ module _ (s : Sum) (f : Form) (head far at p p′ pad ys : List ℕ) (a B : ℕ)
 
   pub block-hashed : (y : List ℕ) → places ≤ s .fill + 1 → length y ≡ 32 → y ≡ xors (s .x) (hashes p′ (f .long) far (set at (s .fill) (a + f .cut)) (f .gap) places)
       → Sound (record { x = y; fill = 0 }) f far (set at (s .fill) (a + f .cut))
-      × (held (record { x = y; fill = 0 }) f far (set at (s .fill) (a + f .cut)) p′ ≡ xors (held s f far at p) (sha256 (said head a B far)))
+      × (flushed (record { x = y; fill = 0 }) f far (set at (s .fill) (a + f .cut)) p′ ≡ xors (flushed s f far at p) (sha256 (said head a B far)))
   block-hashed y last l e = (
     sound-all s f (a + f .cut) far at sound left y,
     all-hashed s f (a + f .cut) far at p p′ (said head a B far) pad ys (sound .known) (sound .free) room padded-said whole kept lent y last l e,

@@ -26,8 +26,8 @@ use Rattle.sha256.proofs.StreamLaws.{length-hashed}
 use Rattle.sha256_lanes.specs.Rounds.{Inside}
 use Rattle.sha256_many.specs.Split.{joined}
 use Rattle.scheme.specs.Lists.{xorBelow}
-use Rattle.scheme.proofs.SumLaws.{length-xor-below, xor-below-more, xor-below-same}
-use Rattle.hash_queue.specs.Waiting.{Sound, places, hashes, held}
+use Rattle.scheme.proofs.laws.SumLaws.{length-xor-below, xor-below-more, xor-below-same}
+use Rattle.hash_queue.specs.Waiting.{Sound, places, hashes, flushed}
 use Rattle.hash_queue.specs.declared.Form.{Form}
 use Rattle.hash_queue.specs.declared.Sum.{Sum}
 use Rattle.hash_queue.proofs.PlaceLaws.{place-end, place-inside}
@@ -71,19 +71,19 @@ inside-own far own at gap fill lanes few below rest all = record { fits = λ i h
 
 -- a sum that no message waits for
 module _ (p : List ℕ) (f : Form) (far : List ℕ) where
-  pub held-all : (s : Sum) (at : List ℕ) → length (s .x) ≡ 32 → s .fill ≡ 0 → s .x ≡ held s f far at p
-  unfolding held
+  pub held-all : (s : Sum) (at : List ℕ) → length (s .x) ≡ 32 → s .fill ≡ 0 → s .x ≡ flushed s f far at p
+  unfolding flushed
   held-all s at l e = hashes-none p (f .long) far (f .gap) at (s .x) l ∙ ap (λ (i : ℕ). xors (s .x) (hashes p (f .long) far at (f .gap) i)) (sym e)
 
-  pub length-held : (s : Sum) (at : List ℕ) → length (s .x) ≡ 32 → length (held s f far at p) ≡ 32
-  unfolding held hashes
+  pub length-held : (s : Sum) (at : List ℕ) → length (s .x) ≡ 32 → length (flushed s f far at p) ≡ 32
+  unfolding flushed hashes
   length-held s at l =
       let each : ℕ → List ℕ = one p (f .long) far at (f .gap) in
       let long : length (xorBelow (s .fill) each) ≡ 32 = length-xor-below each (λ i. length-hashed (joined p (f .long) far at (f .gap) i)) (s .fill) in
       length-xors (s .x) (xorBelow (s .fill) each) (omega arith) ∙ l
 
-  pub held-with : (s : Sum) (at y h : List ℕ) → y ≡ xors (s .x) h → held (record { x = y; fill = s .fill }) f far at p ≡ xors (held s f far at p) h
-  unfolding held
+  pub held-with : (s : Sum) (at y h : List ℕ) → y ≡ xors (s .x) h → flushed (record { x = y; fill = s .fill }) f far at p ≡ xors (flushed s f far at p) h
+  unfolding flushed
   held-with s at y h e =
       let z : List ℕ = hashes p (f .long) far at (f .gap) (s .fill) in
       ap (λ (x : List ℕ). xors x z) e ∙ xors-swap (s .x) h z
@@ -178,16 +178,16 @@ module _ (s : Sum) (f : Form) (v : ℕ) (far at p p′ said pad ys : List ℕ) (
       xor-below-more (one p′ (f .long) far (set at (s .fill) v) (f .gap)) (s .fill)
       ∙ ap₂ xors (xor-below-same (one p (f .long) far at (f .gap)) (one p′ (f .long) far (set at (s .fill) v) (f .gap)) (s .fill) before) hash-here
 
-  next : xors (s .x) (hashes p′ (f .long) far (set at (s .fill) v) (f .gap) (s .fill + 1)) ≡ xors (held s f far at p) (sha256 said)
-  unfolding held
+  next : xors (s .x) (hashes p′ (f .long) far (set at (s .fill) v) (f .gap) (s .fill + 1)) ≡ xors (flushed s f far at p) (sha256 said)
+  unfolding flushed
   next = ap (xors (s .x)) more ∙ sym (xors-assoc (s .x) (hashes p (f .long) far at (f .gap) (s .fill)) (sha256 said))
 
-  pub one-waits : held (record { x = s .x; fill = s .fill + 1 }) f far (set at (s .fill) v) p′ ≡ xors (held s f far at p) (sha256 said)
-  unfolding held
+  pub one-waits : flushed (record { x = s .x; fill = s .fill + 1 }) f far (set at (s .fill) v) p′ ≡ xors (flushed s f far at p) (sha256 said)
+  unfolding flushed
   one-waits = next
 
   pub all-hashed : (y : List ℕ) → places ≤ s .fill + 1 → length y ≡ 32 → y ≡ xors (s .x) (hashes p′ (f .long) far (set at (s .fill) v) (f .gap) places)
-      → held (record { x = y; fill = 0 }) f far (set at (s .fill) v) p′ ≡ xors (held s f far at p) (sha256 said)
+      → flushed (record { x = y; fill = 0 }) f far (set at (s .fill) v) p′ ≡ xors (flushed s f far at p) (sha256 said)
   all-hashed y last l e =
       let q : places ≡ s .fill + 1 = omega arith in
       sym (held-all p′ f far (record { x = y; fill = 0 }) (set at (s .fill) v) l refl)

@@ -4,7 +4,7 @@
 --   Shaped f                 places are whole blocks of 64 bytes, and so is what is left out
 --   Cut f h B                f cuts messages with a head of h bytes and a block of B: what is left out is behind the first 64 bytes
 --   hashes p n far at gap k  the xor of the hashes of the first k padded messages, each in a place of n bytes of p with gap bytes of far from its place of at
---   held s f far at p        what a sum stands for: its digest, with those of the messages that wait
+--   flushed s f far at p        what a sum stands for: its digest, with those of the messages that wait
 --   Sound s f far at         a place is free, and what is left out of the messages lies in far
 use Prim.Native.Nat.{ℕ, _+_, _-_, _%_, _≤_, _<_}
 use mathlib.Core.Logic.{_⊎_}
@@ -45,8 +45,8 @@ pub record Cut (f : Form) (h B : ℕ) : Type 0 where
 unfoldable pub hashes : List ℕ → ℕ → List ℕ → List ℕ → ℕ → ℕ → List ℕ
 hashes p n far at gap k = xorBelow k (λ i. digest (hashed (joined p n far at gap i)))
 
-unfoldable pub held : Sum → Form → List ℕ → List ℕ → List ℕ → List ℕ
-held s f far at p = xors (s .x) (hashes p (f .long) far at (f .gap) (s .fill))
+unfoldable pub flushed : Sum → Form → List ℕ → List ℕ → List ℕ → List ℕ
+flushed s f far at p = xors (s .x) (hashes p (f .long) far at (f .gap) (s .fill))
 
 pub record Sound (s : Sum) (f : Form) (far at : List ℕ) : Type 0 where
   pub known : length at ≡ places

@@ -10,7 +10,7 @@ ghost use Rattle.octets.specs.Octets.{xors};
 ghost use Rattle.sha256.specs.Sha256 as S;
 ghost use Rattle.sha256_lanes.specs.Rounds.{Inside};
 ghost use Rattle.hash_queue.specs.declared.Form.{Form};
-ghost use Rattle.hash_queue.specs.Waiting.{Shaped, Cut, Sound, places, said, short, hashes, held};
+ghost use Rattle.hash_queue.specs.Waiting.{Shaped, Cut, Sound, places, said, short, hashes, flushed};
 
 // How many messages are hashed side by side.
 const PLACES: usize = 16;
@@ -132,7 +132,7 @@ pub fn add(
     at: &mut [usize; 16],
 ) -> Sum
     requires { ⌜ Sound s f (now far) (now at) × Cut f (length (now head)) size × (a + size ≤ length (now far)) × (now pad ≡ S.padding (length (now head) + size)) × (length (now p) ≡ 3072) ⌝ }
-    ensures { λ r. ⌜ Sound r f (now (far .entry)) (now (at .exit)) × (held r f (now (far .entry)) (now (at .exit)) (now (p .exit)) ≡ xors (held s f (now (far .entry)) (now (at .entry)) (now (p .entry))) (S.sha256 (said (now (head .entry)) a size (now (far .entry))))) ⌝ }
+    ensures { λ r. ⌜ Sound r f (now (far .entry)) (now (at .exit)) × (flushed r f (now (far .entry)) (now (at .exit)) (now (p .exit)) ≡ xors (flushed s f (now (far .entry)) (now (at .entry)) (now (p .entry))) (S.sha256 (said (now (head .entry)) a size (now (far .entry))))) ⌝ }
 {
     let x = s.x;
     let fill = s.fill;
@@ -149,7 +149,7 @@ pub fn add(
 
 // The sum with a hash that was made elsewhere.
 pub fn with_hash(s: Sum, h: [u8; 32]) -> Sum
-    ensures { λ r. ⌜ ((f : Form) (far at p : List ℕ) → (Sound s f far at → Sound r f far at) × (held r f far at p ≡ xors (held s f far at p) h)) ⌝ }
+    ensures { λ r. ⌜ ((f : Form) (far at p : List ℕ) → (Sound s f far at → Sound r f far at) × (flushed r f far at p ≡ xors (flushed s f far at p) h)) ⌝ }
 {
     let x = s.x;
     let y = octets::xor32(x, h);
@@ -159,7 +159,7 @@ pub fn with_hash(s: Sum, h: [u8; 32]) -> Sum
 // The digest with the messages that wait.
 pub fn settled(s: Sum, f: Form, far: &[u8], at: &[usize; 16], p: &[u8]) -> [u8; 32]
     requires { ⌜ Sound s f (now far) (now at) × Shaped f × (length (now p) ≡ 3072) ⌝ }
-    ensures { λ r. ⌜ r ≡ held s f (now (far .entry)) (now (at .entry)) (now (p .entry)) ⌝ }
+    ensures { λ r. ⌜ r ≡ flushed s f (now (far .entry)) (now (at .entry)) (now (p .entry)) ⌝ }
 {
     let x = s.x;
     let fill = s.fill;

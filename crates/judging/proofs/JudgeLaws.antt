@@ -16,7 +16,7 @@ use lib.ListN.{length, take, drop, length-drop}
 use lib.Seq.{take-all, drop-drop}
 use lib.Dec.{eqb, ltb}
 use Rattle.octets.specs.Octets.{ofBe, part, same}
-use Rattle.scheme.specs.Ladder.{first, ifZero}
+use Rattle.scheme.specs.Checks.{first, ifZero}
 use Rattle.scheme.specs.Records as R
 use Rattle.scheme.specs.Records.{headFits, readCard, cardBytes}
 use Rattle.scheme.specs.Tokens.{keyK}
@@ -24,11 +24,11 @@ use Rattle.scheme.specs.Table.{there, value, bodyIn}
 use Rattle.scheme.specs.Judging as J
 use Rattle.scheme.specs.Calls.{turnedCard, judgeFault, judgeCode, judgeCard, causeCode}
 use Rattle.standard.specs.Standard.{standard}
-use Rattle.records.proofs.FaultLaws.{rungs-other, rungs-refused, rungs-passed, rungs-zero}
+use Rattle.records.proofs.FaultLaws.{checks-other, checks-refused, checks-passed, checks-zero}
 use Rattle.cards.specs.Fields.{cardOf, cardFault}
 use Rattle.cards.specs.declared.Card as DC
-use Rattle.cards.proofs.FaultLaws.{card-rungs}
-use Rattle.scheme.proofs.LadderLaws.{kept, done}
+use Rattle.cards.proofs.FaultLaws.{card-checks}
+use Rattle.scheme.proofs.laws.CheckLaws.{refusal-kept, answer-written}
 use Rattle.judging.specs.Causes.{sealedCause}
 
 -- what a judging that is not turned away has
@@ -42,49 +42,49 @@ module _ (master card : List ℕ) where
 
   judge-whole : judgeFault standard master card ≡ cond (eqb (length master) 32) (ifZero (cardFault card) (judge-rest (readCard card)) (cardFault card)) 1
   unfolding judgeFault
-  judge-whole = card-rungs (eqb (length master) 32) card _
+  judge-whole = card-checks (eqb (length master) 32) card _
 
   pub judge-short : eqb (length master) 32 ≡ false → 1 ≡ judgeFault standard master card
-  judge-short h = rungs-other (eqb (length master) 32) (cardFault card) (judge-rest (readCard card)) judge-whole h
+  judge-short h = checks-other (eqb (length master) 32) (cardFault card) (judge-rest (readCard card)) judge-whole h
 
   pub judge-refused : (n : ℕ) → n ≡ cardFault card → length master ≡ 32 → (n ≡ 0 → ⊥) → n ≡ judgeFault standard master card
-  judge-refused n e l h = rungs-refused (eqb (length master) 32) (cardFault card) (judge-rest (readCard card)) judge-whole n (eq-eqb (length master) 32 l) e h
+  judge-refused n e l h = checks-refused (eqb (length master) 32) (cardFault card) (judge-rest (readCard card)) judge-whole n (eq-eqb (length master) 32 l) e h
 
   pub judge-of : {b : Bool} (c : DC.Card) → length master ≡ 32 → cardFault card ≡ 0 → cardOf c ≡ readCard card
       → ltb 0 (c .«open_token») ≡ b → cond b 0 9 ≡ judgeFault standard master card
   unfolding first cardOf
   judge-of {b} c lm z e p =
       let tail : judge-rest (cardOf c) ≡ cond b 0 9 = rw p in
-      sym (rungs-passed (eqb (length master) 32) (cardFault card) (judge-rest (readCard card)) judge-whole (eq-eqb (length master) 32 lm) z ∙ ap judge-rest (sym e) ∙ tail)
+      sym (checks-passed (eqb (length master) 32) (cardFault card) (judge-rest (readCard card)) judge-whole (eq-eqb (length master) 32 lm) z ∙ ap judge-rest (sym e) ∙ tail)
 
   pub judge-held : (n : ℕ) → n ≡ judgeFault standard master card → n ≡ 0 → Lent master card
   judge-held n e z =
-      let p = rungs-zero (eqb (length master) 32) (cardFault card) (judge-rest (readCard card)) judge-whole (sym e ∙ z) in
+      let p = checks-zero (eqb (length master) 32) (cardFault card) (judge-rest (readCard card)) judge-whole (sym e ∙ z) in
       record { key32 = eqb-true (length master) 32 (p .0); fault = p .1 }
 
   module _ (reply : List ℕ) (n : ℕ) (e : n ≡ judgeFault standard master card) where
     pub judge-kept : (n ≡ 0 → ⊥) → (n ≡ judgeCode standard master card reply) × (card ≡ judgeCard standard master card reply)
     unfolding judgeCode judgeCard
-    judge-kept h = (e ∙ kept _ _ (judgeFault standard master card) n e h, kept _ _ card n e h)
+    judge-kept h = (e ∙ refusal-kept _ _ (judgeFault standard master card) n e h, refusal-kept _ _ card n e h)
 
     pub judge-done : (c : R.Card) (r : ℕ) (card′ : List ℕ) → n ≡ 0 → c ≡ readCard card
         → r ≡ J.verdictOf (J.cause standard master c reply) → card′ ≡ cardBytes (turnedCard c (c .next) 0)
         → (r ≡ judgeCode standard master card reply) × (card′ ≡ judgeCard standard master card reply)
     unfolding judgeCode judgeCard J.verdict
     judge-done c r card′ z k p q = (
-      p ∙ ap (λ (x : R.Card). J.verdictOf (J.cause standard master x reply)) k ∙ done _ _ (judgeFault standard master card) n e z,
-      q ∙ ap (λ (x : R.Card). cardBytes (turnedCard x (x .next) 0)) k ∙ done _ _ card n e z,
+      p ∙ ap (λ (x : R.Card). J.verdictOf (J.cause standard master x reply)) k ∙ answer-written _ _ (judgeFault standard master card) n e z,
+      q ∙ ap (λ (x : R.Card). cardBytes (turnedCard x (x .next) 0)) k ∙ answer-written _ _ card n e z,
     )
 
     pub cause-kept : (n ≡ 0 → ⊥) → n ≡ causeCode standard master card reply
     unfolding causeCode
-    cause-kept h = e ∙ kept _ _ (judgeFault standard master card) n e h
+    cause-kept h = e ∙ refusal-kept _ _ (judgeFault standard master card) n e h
 
     pub cause-done : (c : R.Card) (r : ℕ) → n ≡ 0 → c ≡ readCard card → r ≡ 256 * J.causeNumber (J.cause standard master c reply)
         → r ≡ causeCode standard master card reply
     unfolding causeCode
     cause-done c r z k p =
-        p ∙ ap (λ (x : R.Card). 256 * J.causeNumber (J.cause standard master x reply)) k ∙ done _ _ (judgeFault standard master card) n e z
+        p ∙ ap (λ (x : R.Card). 256 * J.causeNumber (J.cause standard master x reply)) k ∙ answer-written _ _ (judgeFault standard master card) n e z
 
 -- the file and the token that a reply and its record name are the card's
 abbrev names : DC.Card → List ℕ → Bool

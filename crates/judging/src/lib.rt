@@ -54,7 +54,7 @@ fn verdict(why: Reason) -> u64
     if number_of(why) == 0 {
         return 0;
     }
-    11
+    counts::codes::REJECTED
 }
 
 // Whether a reply of 110 bytes and the record in it each have their length and the version.
@@ -156,7 +156,7 @@ fn judge_fault(master: &[u8], card: &[u8]) -> u64
     ensures { λ r. ⌜ r ≡ S.judgeFault standard (now (master .entry)) (now (card .entry)) ⌝ }
 {
     if master.len() != 32 {
-        return 1;
+        return counts::codes::WRONG_LENGTH;
     }
     let fault = cards::check_card(card);
     if fault != 0 {
@@ -164,7 +164,7 @@ fn judge_fault(master: &[u8], card: &[u8]) -> u64
     }
     let c = cards::read_card(card);
     if c.open_token == 0 {
-        return 9;
+        return counts::codes::NONE_OPEN;
     }
     0
 }

@@ -1,7 +1,7 @@
 // One reply for several files of one master: the owner judges it, the host makes it.
 ghost use mathlib.Core.Path.{_≡_};
 ghost use Rattle.scheme.specs.Pools.{poolCode, poolCards, gatherCode, gatherOut};
-ghost use Rattle.scheme.specs.Roles.{under, toPool};
+ghost use Rattle.scheme.specs.Roles.{under, mayPool};
 ghost use Rattle.standard.specs.Standard.{standard};
 
 // Judge a pooled reply: the verdict, 0 or 11, on the cards of two to sixteen drawn files, which lie end to end in the order of the reply. Either verdict
@@ -13,8 +13,8 @@ pub extern "C" fn legbaro_judge_pool(
     cards: &mut [u8],
     reply: &[u8],
 ) -> u64
-    ensures { λ r. ⌜ r ≡ under role toPool (poolCode standard (now (master .entry)) (now (cards .entry)) (now (reply .entry))) 22 ⌝ }
-    ensures { λ _. ⌜ now (cards .exit) ≡ under role toPool (poolCards standard (now (master .entry)) (now (cards .entry)) (now (reply .entry))) (now (cards .entry)) ⌝ }
+    ensures { λ r. ⌜ r ≡ under role mayPool (poolCode standard (now (master .entry)) (now (cards .entry)) (now (reply .entry))) 22 ⌝ }
+    ensures { λ _. ⌜ now (cards .exit) ≡ under role mayPool (poolCards standard (now (master .entry)) (now (cards .entry)) (now (reply .entry))) (now (cards .entry)) ⌝ }
 {
     access::judge_pool(role, master, cards, reply)
 }

@@ -4,7 +4,7 @@
 ghost use mathlib.Core.Path.{_≡_};
 ghost use Rattle.scheme.specs.Changes.{update, delete, append, load, batch};
 ghost use Rattle.scheme.specs.Asks as S;
-ghost use Rattle.scheme.specs.Roles.{under, toAppend, toBatch, toCommit, toDelete, toDrop, toLoad, toUpdate};
+ghost use Rattle.scheme.specs.Roles.{under, mayAppend, mayBatch, mayCommit, mayDelete, mayDrop, mayLoad, mayUpdate};
 ghost use Rattle.standard.specs.Standard.{standard};
 
 // Ask for an update. Writes the card, the second table and the totals. Codes 22, 1, 2, 3, 15, 8, 18, 4, 10, 7.
@@ -21,10 +21,10 @@ pub extern "C" fn legbaro_ask_update(
     new: &[u8],
     totals: &mut [u8],
 ) -> u64
-    ensures { λ r. ⌜ r ≡ under role toUpdate (S.askCode standard (now (master .entry)) (now (card .entry)) (now (table .entry)) (now (second .entry)) (update block (now (old .entry)) (now (mark .entry)) (now (new .entry))) (now (totals .entry))) 22 ⌝ }
-    ensures { λ _. ⌜ now (card .exit) ≡ under role toUpdate (S.askCard standard (now (master .entry)) (now (card .entry)) (now (table .entry)) (now (second .entry)) (update block (now (old .entry)) (now (mark .entry)) (now (new .entry))) (now (totals .entry))) (now (card .entry)) ⌝ }
-    ensures { λ _. ⌜ now (second .exit) ≡ under role toUpdate (S.askSecond standard (now (master .entry)) (now (card .entry)) (now (table .entry)) (now (second .entry)) (update block (now (old .entry)) (now (mark .entry)) (now (new .entry))) (now (totals .entry))) (now (second .entry)) ⌝ }
-    ensures { λ _. ⌜ now (totals .exit) ≡ under role toUpdate (S.askTotals standard (now (master .entry)) (now (card .entry)) (now (table .entry)) (now (second .entry)) (update block (now (old .entry)) (now (mark .entry)) (now (new .entry))) (now (totals .entry))) (now (totals .entry)) ⌝ }
+    ensures { λ r. ⌜ r ≡ under role mayUpdate (S.askCode standard (now (master .entry)) (now (card .entry)) (now (table .entry)) (now (second .entry)) (update block (now (old .entry)) (now (mark .entry)) (now (new .entry))) (now (totals .entry))) 22 ⌝ }
+    ensures { λ _. ⌜ now (card .exit) ≡ under role mayUpdate (S.askCard standard (now (master .entry)) (now (card .entry)) (now (table .entry)) (now (second .entry)) (update block (now (old .entry)) (now (mark .entry)) (now (new .entry))) (now (totals .entry))) (now (card .entry)) ⌝ }
+    ensures { λ _. ⌜ now (second .exit) ≡ under role mayUpdate (S.askSecond standard (now (master .entry)) (now (card .entry)) (now (table .entry)) (now (second .entry)) (update block (now (old .entry)) (now (mark .entry)) (now (new .entry))) (now (totals .entry))) (now (second .entry)) ⌝ }
+    ensures { λ _. ⌜ now (totals .exit) ≡ under role mayUpdate (S.askTotals standard (now (master .entry)) (now (card .entry)) (now (table .entry)) (now (second .entry)) (update block (now (old .entry)) (now (mark .entry)) (now (new .entry))) (now (totals .entry))) (now (totals .entry)) ⌝ }
 {
     access::ask(
         role,
@@ -54,10 +54,10 @@ pub extern "C" fn legbaro_ask_delete(
     mark: &[u8],
     totals: &mut [u8],
 ) -> u64
-    ensures { λ r. ⌜ r ≡ under role toDelete (S.askCode standard (now (master .entry)) (now (card .entry)) (now (table .entry)) (now (second .entry)) (delete block (now (old .entry)) (now (mark .entry))) (now (totals .entry))) 22 ⌝ }
-    ensures { λ _. ⌜ now (card .exit) ≡ under role toDelete (S.askCard standard (now (master .entry)) (now (card .entry)) (now (table .entry)) (now (second .entry)) (delete block (now (old .entry)) (now (mark .entry))) (now (totals .entry))) (now (card .entry)) ⌝ }
-    ensures { λ _. ⌜ now (second .exit) ≡ under role toDelete (S.askSecond standard (now (master .entry)) (now (card .entry)) (now (table .entry)) (now (second .entry)) (delete block (now (old .entry)) (now (mark .entry))) (now (totals .entry))) (now (second .entry)) ⌝ }
-    ensures { λ _. ⌜ now (totals .exit) ≡ under role toDelete (S.askTotals standard (now (master .entry)) (now (card .entry)) (now (table .entry)) (now (second .entry)) (delete block (now (old .entry)) (now (mark .entry))) (now (totals .entry))) (now (totals .entry)) ⌝ }
+    ensures { λ r. ⌜ r ≡ under role mayDelete (S.askCode standard (now (master .entry)) (now (card .entry)) (now (table .entry)) (now (second .entry)) (delete block (now (old .entry)) (now (mark .entry))) (now (totals .entry))) 22 ⌝ }
+    ensures { λ _. ⌜ now (card .exit) ≡ under role mayDelete (S.askCard standard (now (master .entry)) (now (card .entry)) (now (table .entry)) (now (second .entry)) (delete block (now (old .entry)) (now (mark .entry))) (now (totals .entry))) (now (card .entry)) ⌝ }
+    ensures { λ _. ⌜ now (second .exit) ≡ under role mayDelete (S.askSecond standard (now (master .entry)) (now (card .entry)) (now (table .entry)) (now (second .entry)) (delete block (now (old .entry)) (now (mark .entry))) (now (totals .entry))) (now (second .entry)) ⌝ }
+    ensures { λ _. ⌜ now (totals .exit) ≡ under role mayDelete (S.askTotals standard (now (master .entry)) (now (card .entry)) (now (table .entry)) (now (second .entry)) (delete block (now (old .entry)) (now (mark .entry))) (now (totals .entry))) (now (totals .entry)) ⌝ }
 {
     access::ask(
         role,
@@ -85,10 +85,10 @@ pub extern "C" fn legbaro_ask_append(
     new: &[u8],
     totals: &mut [u8],
 ) -> u64
-    ensures { λ r. ⌜ r ≡ under role toAppend (S.askCode standard (now (master .entry)) (now (card .entry)) (now (table .entry)) (now (second .entry)) (append (now (new .entry))) (now (totals .entry))) 22 ⌝ }
-    ensures { λ _. ⌜ now (card .exit) ≡ under role toAppend (S.askCard standard (now (master .entry)) (now (card .entry)) (now (table .entry)) (now (second .entry)) (append (now (new .entry))) (now (totals .entry))) (now (card .entry)) ⌝ }
-    ensures { λ _. ⌜ now (second .exit) ≡ under role toAppend (S.askSecond standard (now (master .entry)) (now (card .entry)) (now (table .entry)) (now (second .entry)) (append (now (new .entry))) (now (totals .entry))) (now (second .entry)) ⌝ }
-    ensures { λ _. ⌜ now (totals .exit) ≡ under role toAppend (S.askTotals standard (now (master .entry)) (now (card .entry)) (now (table .entry)) (now (second .entry)) (append (now (new .entry))) (now (totals .entry))) (now (totals .entry)) ⌝ }
+    ensures { λ r. ⌜ r ≡ under role mayAppend (S.askCode standard (now (master .entry)) (now (card .entry)) (now (table .entry)) (now (second .entry)) (append (now (new .entry))) (now (totals .entry))) 22 ⌝ }
+    ensures { λ _. ⌜ now (card .exit) ≡ under role mayAppend (S.askCard standard (now (master .entry)) (now (card .entry)) (now (table .entry)) (now (second .entry)) (append (now (new .entry))) (now (totals .entry))) (now (card .entry)) ⌝ }
+    ensures { λ _. ⌜ now (second .exit) ≡ under role mayAppend (S.askSecond standard (now (master .entry)) (now (card .entry)) (now (table .entry)) (now (second .entry)) (append (now (new .entry))) (now (totals .entry))) (now (second .entry)) ⌝ }
+    ensures { λ _. ⌜ now (totals .exit) ≡ under role mayAppend (S.askTotals standard (now (master .entry)) (now (card .entry)) (now (table .entry)) (now (second .entry)) (append (now (new .entry))) (now (totals .entry))) (now (totals .entry)) ⌝ }
 {
     access::ask(
         role,
@@ -116,10 +116,10 @@ pub extern "C" fn legbaro_ask_load(
     blocks: &[u8],
     totals: &mut [u8],
 ) -> u64
-    ensures { λ r. ⌜ r ≡ under role toLoad (S.askCode standard (now (master .entry)) (now (card .entry)) (now (table .entry)) (now (second .entry)) (load (now (blocks .entry))) (now (totals .entry))) 22 ⌝ }
-    ensures { λ _. ⌜ now (card .exit) ≡ under role toLoad (S.askCard standard (now (master .entry)) (now (card .entry)) (now (table .entry)) (now (second .entry)) (load (now (blocks .entry))) (now (totals .entry))) (now (card .entry)) ⌝ }
-    ensures { λ _. ⌜ now (second .exit) ≡ under role toLoad (S.askSecond standard (now (master .entry)) (now (card .entry)) (now (table .entry)) (now (second .entry)) (load (now (blocks .entry))) (now (totals .entry))) (now (second .entry)) ⌝ }
-    ensures { λ _. ⌜ now (totals .exit) ≡ under role toLoad (S.askTotals standard (now (master .entry)) (now (card .entry)) (now (table .entry)) (now (second .entry)) (load (now (blocks .entry))) (now (totals .entry))) (now (totals .entry)) ⌝ }
+    ensures { λ r. ⌜ r ≡ under role mayLoad (S.askCode standard (now (master .entry)) (now (card .entry)) (now (table .entry)) (now (second .entry)) (load (now (blocks .entry))) (now (totals .entry))) 22 ⌝ }
+    ensures { λ _. ⌜ now (card .exit) ≡ under role mayLoad (S.askCard standard (now (master .entry)) (now (card .entry)) (now (table .entry)) (now (second .entry)) (load (now (blocks .entry))) (now (totals .entry))) (now (card .entry)) ⌝ }
+    ensures { λ _. ⌜ now (second .exit) ≡ under role mayLoad (S.askSecond standard (now (master .entry)) (now (card .entry)) (now (table .entry)) (now (second .entry)) (load (now (blocks .entry))) (now (totals .entry))) (now (second .entry)) ⌝ }
+    ensures { λ _. ⌜ now (totals .exit) ≡ under role mayLoad (S.askTotals standard (now (master .entry)) (now (card .entry)) (now (table .entry)) (now (second .entry)) (load (now (blocks .entry))) (now (totals .entry))) (now (totals .entry)) ⌝ }
 {
     access::ask(
         role,
@@ -147,10 +147,10 @@ pub extern "C" fn legbaro_ask_batch(
     items: &[u8],
     totals: &mut [u8],
 ) -> u64
-    ensures { λ r. ⌜ r ≡ under role toBatch (S.askCode standard (now (master .entry)) (now (card .entry)) (now (table .entry)) (now (second .entry)) (batch (now (items .entry))) (now (totals .entry))) 22 ⌝ }
-    ensures { λ _. ⌜ now (card .exit) ≡ under role toBatch (S.askCard standard (now (master .entry)) (now (card .entry)) (now (table .entry)) (now (second .entry)) (batch (now (items .entry))) (now (totals .entry))) (now (card .entry)) ⌝ }
-    ensures { λ _. ⌜ now (second .exit) ≡ under role toBatch (S.askSecond standard (now (master .entry)) (now (card .entry)) (now (table .entry)) (now (second .entry)) (batch (now (items .entry))) (now (totals .entry))) (now (second .entry)) ⌝ }
-    ensures { λ _. ⌜ now (totals .exit) ≡ under role toBatch (S.askTotals standard (now (master .entry)) (now (card .entry)) (now (table .entry)) (now (second .entry)) (batch (now (items .entry))) (now (totals .entry))) (now (totals .entry)) ⌝ }
+    ensures { λ r. ⌜ r ≡ under role mayBatch (S.askCode standard (now (master .entry)) (now (card .entry)) (now (table .entry)) (now (second .entry)) (batch (now (items .entry))) (now (totals .entry))) 22 ⌝ }
+    ensures { λ _. ⌜ now (card .exit) ≡ under role mayBatch (S.askCard standard (now (master .entry)) (now (card .entry)) (now (table .entry)) (now (second .entry)) (batch (now (items .entry))) (now (totals .entry))) (now (card .entry)) ⌝ }
+    ensures { λ _. ⌜ now (second .exit) ≡ under role mayBatch (S.askSecond standard (now (master .entry)) (now (card .entry)) (now (table .entry)) (now (second .entry)) (batch (now (items .entry))) (now (totals .entry))) (now (second .entry)) ⌝ }
+    ensures { λ _. ⌜ now (totals .exit) ≡ under role mayBatch (S.askTotals standard (now (master .entry)) (now (card .entry)) (now (table .entry)) (now (second .entry)) (batch (now (items .entry))) (now (totals .entry))) (now (totals .entry)) ⌝ }
 {
     access::ask(
         role,
@@ -171,8 +171,8 @@ pub extern "C" fn legbaro_ask_batch(
 // on. Codes 22, 1, 2, 3, 19.
 #[no_mangle]
 pub extern "C" fn legbaro_commit(role: u64, card: &mut [u8]) -> u64
-    ensures { λ r. ⌜ r ≡ under role toCommit (S.settleCode (now (card .entry))) 22 ⌝ }
-    ensures { λ _. ⌜ now (card .exit) ≡ under role toCommit (S.commitCard (now (card .entry))) (now (card .entry)) ⌝ }
+    ensures { λ r. ⌜ r ≡ under role mayCommit (S.settleCode (now (card .entry))) 22 ⌝ }
+    ensures { λ _. ⌜ now (card .exit) ≡ under role mayCommit (S.commitCard (now (card .entry))) (now (card .entry)) ⌝ }
 {
     access::commit(role, card)
 }
@@ -180,8 +180,8 @@ pub extern "C" fn legbaro_commit(role: u64, card: &mut [u8]) -> u64
 // Drop: what was asked for is given up, and the table stays the standing one. The counter that the ask took is not taken again. Codes 22, 1, 2, 3, 19.
 #[no_mangle]
 pub extern "C" fn legbaro_drop(role: u64, card: &mut [u8]) -> u64
-    ensures { λ r. ⌜ r ≡ under role toDrop (S.settleCode (now (card .entry))) 22 ⌝ }
-    ensures { λ _. ⌜ now (card .exit) ≡ under role toDrop (S.dropCard (now (card .entry))) (now (card .entry)) ⌝ }
+    ensures { λ r. ⌜ r ≡ under role mayDrop (S.settleCode (now (card .entry))) 22 ⌝ }
+    ensures { λ _. ⌜ now (card .exit) ≡ under role mayDrop (S.dropCard (now (card .entry))) (now (card .entry)) ⌝ }
 {
     access::drop(role, card)
 }

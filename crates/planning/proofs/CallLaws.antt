@@ -19,10 +19,10 @@ use Rattle.permutation.specs.Rounds.{half}
 use Rattle.permutation.proofs.RoundLaws.{square}
 use Rattle.permutation.proofs.WidthLaws.{half-le, half-wide, whole-le}
 use Rattle.permutation.proofs.MachineLaws.{one-shl}
-use Rattle.scheme.specs.Ladder.{first}
+use Rattle.scheme.specs.Checks.{first}
 use Rattle.scheme.specs.Records.{shapeFits, tokenFits, blocksFit}
-use Rattle.scheme.proofs.LadderLaws.{rung, both, within-true, kept, done}
-use Rattle.scheme.proofs.LimitLaws.{Shape, shape-limits}
+use Rattle.scheme.proofs.laws.CheckLaws.{first-passed, both, within-true, refusal-kept, answer-written}
+use Rattle.scheme.proofs.laws.LimitLaws.{Shape, shape-limits}
 use Rattle.planning.specs.Sheet.{tableBytes, ceiling, least, most, escape, sheetFits, sheetCode, sheetBytes, sheetOut}
 
 module _ (B d r t n m : ℕ) (out : List ℕ) where
@@ -41,9 +41,9 @@ module _ (B d r t n m : ℕ) (out : List ℕ) where
   pub sheet-held : sheetCode B d r t n m out ≡ 0 → Held
   unfolding sheetCode sheetFits tokenFits blocksFit
   sheet-held h =
-      let p = rung (eqb (length out) 40, 1) _ (omega arith) h in
-      let q = rung (sheetFits B d r t n, 3) _ (omega arith) (p .1) in
-      let s = rung (leb m d, 21) _ (omega arith) (q .1) in
+      let p = first-passed (eqb (length out) 40, 1) _ (omega arith) h in
+      let q = first-passed (sheetFits B d r t n, 3) _ (omega arith) (p .1) in
+      let s = first-passed (leb m d, 21) _ (omega arith) (q .1) in
       let u = both (shapeFits B d r && tokenFits t) (blocksFit n) (q .0) in
       let v = both (shapeFits B d r) (tokenFits t) (u .0) in
       record {
@@ -56,12 +56,12 @@ module _ (B d r t n m : ℕ) (out : List ℕ) where
 
   pub sheet-kept : (k : ℕ) → k ≡ sheetCode B d r t n m out → (k ≡ 0 → ⊥) → out ≡ sheetOut B d r t n m out
   unfolding sheetOut
-  sheet-kept k e h = kept (sheetCode B d r t n m out) (sheetBytes d r t n m) out k e h
+  sheet-kept k e h = refusal-kept (sheetCode B d r t n m out) (sheetBytes d r t n m) out k e h
 
   pub sheet-done : (k : ℕ) → k ≡ sheetCode B d r t n m out → k ≡ 0 → {a b c e : ℕ} → a ≡ ceiling d r → b ≡ least d r n → c ≡ most d r n → e ≡ escape d r m
       → be 8 (t * 63) ++ be 8 a ++ be 8 b ++ be 8 c ++ be 8 e ≡ sheetOut B d r t n m out
   unfolding sheetOut sheetBytes tableBytes
-  sheet-done k g h p q s u = rw (p, q, s, u) (done (sheetCode B d r t n m out) (sheetBytes d r t n m) out k g h)
+  sheet-done k g h p q s u = rw (p, q, s, u) (answer-written (sheetCode B d r t n m out) (sheetBytes d r t n m) out k g h)
 
 module _ (d h : ℕ) (l : d ≤ 1048576) (e : h ≡ half d) where
   pub width-most : h ≤ 10

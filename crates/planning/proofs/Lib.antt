@@ -3,4 +3,4 @@ pub mod ChanceLaws
 pub mod RowLaws
 pub mod CallLaws
 pub mod Theorems
-pub mod Worked
+pub mod Examples

@@ -20,9 +20,9 @@ use Rattle.permutation.proofs.WidthLaws.{half-le, whole-le}
 use Rattle.scheme.specs.Primitives.{Primitives}
 use Rattle.scheme.specs.Tokens.{columnsOf, drawnRow}
 use Rattle.scheme.specs.Totals.{digestTurns, digestHashes}
-use Rattle.scheme.proofs.LadderLaws.{done}
+use Rattle.scheme.proofs.laws.CheckLaws.{answer-written}
 use Rattle.standard.specs.Standard.{standard}
-use Rattle.standard.proofs.WorkTheorem.{sum-over, token-turns}
+use Rattle.standard.proofs.TotalsTheorem.{sum-over, token-turns}
 use Rattle.planning.specs.Sheet.{tableBytes, ceiling, least, most, escape, sheetCode, sheetBytes, sheetOut}
 use Rattle.planning.specs.Exact.{Rows, hashes, falling, Quotes, numberAt}
 use Rattle.planning.proofs.RowLaws.{extra, extra-most, extra-least, total-columns, extra-upFrom, total-map, distinct-map, between-map}
@@ -77,15 +77,15 @@ module _ (P : Primitives) (k : List ℕ) (d : ℕ) (most-d : d ≤ 1048576) wher
       sym (P .unperm-perm k d (x - 1) most-d (omega arith)) ∙ ap (P .unperm k d) s ∙ P .unperm-perm k d (y - 1) most-d (omega arith) in
       omega arith
 
-  inside : (x : ℕ) → 1 ≤ x → x < suc d → (1 ≤ drawnRow P k d x) × (drawnRow P k d x < suc d)
+  drawn-within : (x : ℕ) → 1 ≤ x → x < suc d → (1 ≤ drawnRow P k d x) × (drawnRow P k d x < suc d)
   unfolding drawnRow
-  inside x x1 xd = (omega arith, omega (arith, P .perm-below k d (x - 1) most-d (omega arith)))
+  drawn-within x x1 xd = (omega arith, omega (arith, P .perm-below k d (x - 1) most-d (omega arith)))
 
   drawn-rows : (r : ℕ) → r ≤ d → Rows d r (map (drawnRow P k d) (upFrom 1 r))
   drawn-rows r h =
       let b = between-upFrom 1 (suc d) 1 r (omega arith) (omega arith) in (
         length-map (upFrom 1 r) (drawnRow P k d) ∙ length-upFrom 1 r,
-        between-map (drawnRow P k d) 1 (suc d) 1 (suc d) inside (upFrom 1 r) b,
+        between-map (drawnRow P k d) 1 (suc d) 1 (suc d) drawn-within (upFrom 1 r) b,
         distinct-map (drawnRow P k d) 1 (suc d) apart (upFrom 1 r) b (distinct-upFrom 1 r),
       )
 
@@ -147,6 +147,6 @@ module _ (B d r t n m : ℕ) (out : List ℕ) (code : sheetCode B d r t n m out 
   pub sheet-quotes : (let x : ℕ → ℕ = λ i. numberAt i (sheetOut B d r t n m out) in Quotes d r t n m (x 0) (x 1) (x 2) (x 3) (x 4))
   unfolding sheetOut
   sheet-quotes =
-      let written : sheetBytes d r t n m ≡ sheetOut B d r t n m out = done (sheetCode B d r t n m out) (sheetBytes d r t n m) out 0 (sym code) refl in
+      let written : sheetBytes d r t n m ≡ sheetOut B d r t n m out = answer-written (sheetCode B d r t n m out) (sheetBytes d r t n m) out 0 (sym code) refl in
       subst (λ (s : List ℕ). Quotes d r t n m (numberAt 0 s) (numberAt 1 s) (numberAt 2 s) (numberAt 3 s) (numberAt 4 s)) written
       (quotes (five .0) (five .1) (five .2) (five .3) (five .4))

@@ -9,6 +9,7 @@ use mathlib.Core.Path.{_≡_}
 use mathlib.Core.List.{List}
 use lib.ListN.{length}
 use Rattle.octets.specs.Octets.{ofBe, part}
+use Rattle.counts.specs.Sizes.{recordSize}
 use Rattle.permutation.specs.Distinct.{Distinct, Between, total}
 use Rattle.scheme.specs.Tokens.{columnsOf}
 use Rattle.scheme.specs.Totals.{digestTurns, digestHashes}
@@ -29,7 +30,7 @@ falling d (suc j) = falling d j * (d - j)
 
 pub record Quotes (d r t n m : ℕ) (table turns low high chance : ℕ) : Type 0 where
   -- "the table's bytes"
-  pub room : table ≡ t * 63
+  pub room : table ≡ t * recordSize
   -- "a ceiling .. on the turns of one token": those that set-up and proof tell (#109), under any key k
   pub walks : (k : List ℕ) → digestTurns standard k d r ≤ turns
   -- "the least and most hashes for a proof": those that a proof tells; and "of any r different rows"

@@ -14,13 +14,15 @@ use mathlib.Core.Bool.{Bool, cond, _&&_}
 use lib.Dec.{eqb, leb}
 use lib.ListN.{length}
 use Rattle.octets.specs.Octets.{be}
+use Rattle.counts.specs.Codes.{wrongLength, outOfLimits, tooManyDamaged}
+use Rattle.counts.specs.Sizes.{recordSize, sheetSize}
 use Rattle.permutation.specs.Rounds.{half}
-use Rattle.scheme.specs.Ladder.{first, ifZero}
+use Rattle.scheme.specs.Checks.{first, ifZero}
 use Rattle.scheme.specs.Records.{shapeFits, tokenFits, blocksFit}
 
 -- "the table's bytes": "Token record, 63", "The table is t records in token order"
 unfoldable pub tableBytes : ℕ → ℕ
-tableBytes t = t * 63
+tableBytes t = t * recordSize
 
 -- "a ceiling of r + 4^h - d on the turns of one token"
 unfoldable pub ceiling : ℕ → ℕ → ℕ
@@ -52,7 +54,7 @@ sheetFits B d r t n = shapeFits B d r && tokenFits t && blocksFit n
 
 -- "1 | a buffer's length is not the one above"; "It refuses, after 3, m above d (21)."
 unfoldable pub sheetCode : ℕ → ℕ → ℕ → ℕ → ℕ → ℕ → List ℕ → ℕ
-sheetCode B d r t n m out = first 0 ((eqb (length out) 40, 1) ∷ (sheetFits B d r t n, 3) ∷ (leb m d, 21) ∷ [])
+sheetCode B d r t n m out = first 0 ((eqb (length out) sheetSize, wrongLength) ∷ (sheetFits B d r t n, outOfLimits) ∷ (leb m d, tooManyDamaged) ∷ [])
 
 -- "Several are written, 8 bytes each in the order told, to one buffer."
 unfoldable pub sheetBytes : ℕ → ℕ → ℕ → ℕ → ℕ → List ℕ

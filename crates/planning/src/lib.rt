@@ -6,36 +6,29 @@ ghost use mathlib.Core.Path.{_≡_};
 ghost use mathlib.Core.Bool.{_&&_};
 ghost use Prim.Native.Nat.{_≤_, min, _<_, _^_};
 ghost use Rattle.scheme.specs.Calls as C;
-ghost use Rattle.scheme.specs.Ladder.{within};
+ghost use Rattle.scheme.specs.Checks.{within};
 ghost use mathlib.Core.List.{_++_};
 ghost use lib.ListN.{length};
 ghost use Rattle.octets.specs.Octets.{be};
+ghost use Rattle.counts.specs.Sizes.{sheetSize};
+ghost use Rattle.counts.specs.Limits.{mostRows, mostPositions, mostBlocks};
 ghost use Rattle.planning.specs.Sheet as S;
-
-// The lesser of two numbers.
-fn lesser(a: u64, b: u64) -> u64
-    ensures { λ r. ⌜ r ≡ min a b ⌝ }
-{
-    if a < b {
-        return a;
-    }
-    b
-}
+use counts::sizes;
 
 // Whether the numbers that are given lie within their limits.
 fn asked_fits(positions: u64, planned: u64, present: u64) -> bool
-    ensures { λ r. ⌜ r ≡ (within 1 1048576 planned && within 1 planned present && within 1 (min present 512) positions) ⌝ }
+    ensures { λ r. ⌜ r ≡ (within 1 mostRows planned && within 1 planned present && within 1 (min present mostPositions) positions) ⌝ }
 {
-    let rows = (1 <= planned) & (planned <= 1048576);
+    let rows = (1 <= planned) & (planned <= counts::limits::MOST_ROWS);
     let blocks = (1 <= present) & (present <= planned);
-    let most = lesser(present, 512);
+    let most = records::lesser(present, counts::limits::MOST_POSITIONS);
     let few = (1 <= positions) & (positions <= most);
     rows & blocks & few
 }
 
 // How many positions of planned rows draw the share that `positions` draw of the blocks present, rounded up.
 fn positions_for(positions: u64, planned: u64, present: u64) -> u64
-    requires { ⌜ (positions ≤ 512) × (planned ≤ 1048576) × (1 ≤ present) × (present ≤ 1048576) ⌝ }
+    requires { ⌜ (positions ≤ mostPositions) × (planned ≤ mostRows) × (1 ≤ present) × (present ≤ mostRows) ⌝ }
     ensures { λ r. ⌜ r ≡ C.positionsFor positions planned present ⌝ }
 {
     (positions * planned + present - 1) / present
@@ -47,11 +40,11 @@ pub fn positions(positions: u64, planned: u64, present: u64) -> u64
 {
     let fits = asked_fits(positions, planned, present);
     if !fits {
-        return 3;
+        return counts::codes::OUT_OF_LIMITS;
     }
     let given = positions_for(positions, planned, present);
-    if 512 < given {
-        return 13;
+    if counts::limits::MOST_POSITIONS < given {
+        return counts::codes::TOO_MANY_POSITIONS;
     }
     256 * given
 }
@@ -77,22 +70,22 @@ fn sheet_code(
 ) -> u64
     ensures { λ r. ⌜ r ≡ S.sheetCode «block_bytes» rows positions tokens blocks damaged (now (out .entry)) ⌝ }
 {
-    if out.len() != 40 {
-        return 1;
+    if out.len() != sizes::SHEET {
+        return counts::codes::WRONG_LENGTH;
     }
     let fits = numbers_fit(block_bytes, rows, positions, tokens, blocks);
     if !fits {
-        return 3;
+        return counts::codes::OUT_OF_LIMITS;
     }
     if rows < damaged {
-        return 21;
+        return counts::codes::TOO_MANY_DAMAGED;
     }
     0
 }
 
 // The most turns that so many positions of one token take together.
 fn ceiling(rows: u64, positions: u64) -> u64
-    requires { ⌜ (1 ≤ rows) × (rows ≤ 1048576) × (positions ≤ 512) ⌝ }
+    requires { ⌜ (1 ≤ rows) × (rows ≤ mostRows) × (positions ≤ mostPositions) ⌝ }
     ensures { λ r. ⌜ r ≡ S.ceiling rows positions ⌝ }
 {
     let side = 1u64 << permutation::half_width(rows);
@@ -101,7 +94,7 @@ fn ceiling(rows: u64, positions: u64) -> u64
 
 // The least hashes for a proof of so many different rows.
 fn least(rows: u64, positions: u64, blocks: u64) -> u64
-    requires { ⌜ (1 ≤ rows) × (positions ≤ 512) × (blocks ≤ 16777216) ⌝ }
+    requires { ⌜ (1 ≤ rows) × (positions ≤ mostPositions) × (blocks ≤ mostBlocks) ⌝ }
     ensures { λ r. ⌜ r ≡ S.least rows positions blocks ⌝ }
 {
     let whole = positions * (blocks / rows);
@@ -114,7 +107,7 @@ fn least(rows: u64, positions: u64, blocks: u64) -> u64
 
 // The most hashes for a proof of so many different rows.
 fn most(rows: u64, positions: u64, blocks: u64) -> u64
-    requires { ⌜ (1 ≤ rows) × (positions ≤ 512) × (blocks ≤ 16777216) ⌝ }
+    requires { ⌜ (1 ≤ rows) × (positions ≤ mostPositions) × (blocks ≤ mostBlocks) ⌝ }
     ensures { λ r. ⌜ r ≡ S.most rows positions blocks ⌝ }
 {
     let whole = positions * (blocks / rows);
@@ -135,7 +128,7 @@ fn up(x: u64, b: u64) -> u64
 
 // The chance, in units of 2^-32, that so many different rows miss the damaged ones.
 fn escape(rows: u64, positions: u64, damaged: u64) -> u64
-    requires { ⌜ (rows ≤ 1048576) × (positions ≤ rows) × (damaged ≤ rows) ⌝ }
+    requires { ⌜ (rows ≤ mostRows) × (positions ≤ rows) × (damaged ≤ rows) ⌝ }
     ensures { λ r. ⌜ r ≡ S.escape rows positions damaged ⌝ }
 {
     let sound = rows - damaged;
@@ -153,7 +146,7 @@ fn escape(rows: u64, positions: u64, damaged: u64) -> u64
 
 // Writes five numbers over 40 bytes.
 fn put_five(out: &mut [u8], a: u64, b: u64, c: u64, d: u64, e: u64)
-    requires { ⌜ length (now out) ≡ 40 ⌝ }
+    requires { ⌜ length (now out) ≡ sheetSize ⌝ }
     ensures { λ _. ⌜ now (out .exit) ≡ be 8 a ++ be 8 b ++ be 8 c ++ be 8 d ++ be 8 e ⌝ }
 {
     octets::put_be8(out, 0, a);
@@ -185,6 +178,6 @@ pub fn sheet(
     let low = least(rows, positions, blocks);
     let high = most(rows, positions, blocks);
     let chance = escape(rows, positions, damaged);
-    put_five(out, tokens * 63, turns, low, high, chance);
+    put_five(out, tokens * sizes::RECORD_BYTES, turns, low, high, chance);
     0
 }

@@ -17,10 +17,10 @@ use lib.ListN.{length, take, drop, length-drop}
 use lib.Seq.{drop-drop}
 use Rattle.octets.specs.Octets.{ofBe, part, same}
 use Rattle.octets.proofs.PartLaws.{length-part, part-part}
-use Rattle.scheme.specs.Ladder.{first}
+use Rattle.scheme.specs.Checks.{first}
 use Rattle.scheme.specs.Records.{readCard}
 use Rattle.scheme.specs.Pools.{cutCode, cutCards, cutFault, cut, readAll, every, absent, distinct}
-use Rattle.scheme.proofs.LadderLaws.{both}
+use Rattle.scheme.proofs.laws.CheckLaws.{both}
 
 -- the length field of the first card, and the bytes of the card
 abbrev field : List ℕ → ℕ

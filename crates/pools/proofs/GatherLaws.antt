@@ -19,11 +19,11 @@ use Rattle.octets.specs.Octets.{be, part, put, xors}
 use Rattle.octets.proofs.NumberLaws.{length-be}
 use Rattle.octets.proofs.PartLaws.{length-part, part-part, put-put, length-put, take-put}
 use Rattle.octets.proofs.XorLaws.{length-xors}
-use Rattle.scheme.specs.Ladder.{first, within}
+use Rattle.scheme.specs.Checks.{first, within}
 use Rattle.scheme.specs.Lists.{pieces}
 use Rattle.scheme.specs.Records.{headKnown}
 use Rattle.scheme.specs.Pools.{every, entries, digestSum, gatheredReply, singles, gatherCode, gatherOut}
-use Rattle.scheme.proofs.LadderLaws.{rung, within-true, kept, done}
+use Rattle.scheme.proofs.laws.CheckLaws.{first-passed, within-true, refusal-kept, answer-written}
 
 -- the reply that is lent from an offset on
 abbrev pub single : List ℕ → ℕ → List ℕ
@@ -77,10 +77,10 @@ module _ (xs pooled : List ℕ) where
   pub gathered : (n : ℕ) → n ≡ gatherCode xs pooled → n ≡ 0 → Gathered
   unfolding gatherCode
   gathered n e z =
-      let a = rung (eqb (length xs % 110) 0, 1) _ (omega arith) (sym e ∙ z) in
-      let b = rung (every (headKnown 108) (singles xs), 2) _ (omega arith) (a .1) in
-      let c = rung (within 2 16 (length xs / 110), 23) _ (omega arith) (b .1) in
-      let d = rung (eqb (length pooled) (37 + 75 * (length xs / 110)), 1) _ (omega arith) (c .1) in
+      let a = first-passed (eqb (length xs % 110) 0, 1) _ (omega arith) (sym e ∙ z) in
+      let b = first-passed (every (headKnown 108) (singles xs), 2) _ (omega arith) (a .1) in
+      let c = first-passed (within 2 16 (length xs / 110), 23) _ (omega arith) (b .1) in
+      let d = first-passed (eqb (length pooled) (37 + 75 * (length xs / 110)), 1) _ (omega arith) (c .1) in
       record {
         even = eqb-true (length xs % 110) 0 (a .0);
         most = within-true 2 16 (length xs / 110) (c .0) .1;
@@ -185,7 +185,7 @@ pieces-count (suc m) ys = ap suc (pieces-count m (drop 110 ys))
 module _ (xs pooled : List ℕ) (n : ℕ) (e : n ≡ gatherCode xs pooled) where
   pub gather-kept : (n ≡ 0 → ⊥) → (n ≡ gatherCode xs pooled) × (pooled ≡ gatherOut xs pooled)
   unfolding gatherOut
-  gather-kept h = (e, kept (gatherCode xs pooled) _ pooled n e h)
+  gather-kept h = (e, refusal-kept (gatherCode xs pooled) _ pooled n e h)
 
   count-is : length (singles xs) ≡ length xs / 110
   count-is = pieces-count (length xs / 110) xs
@@ -204,5 +204,5 @@ module _ (xs pooled : List ℕ) (n : ℕ) (e : n ≡ gatherCode xs pooled) where
         q
             ∙ ap (λ (u : List ℕ). u ++ entries (singles xs)) front
             ∙ ap₂ (λ (k : ℕ) (u : List ℕ). be 2 (35 + 75 * k) ++ (1 ∷ []) ++ be 2 k ++ u ++ entries (singles xs)) m s
-            ∙ done (gatherCode xs pooled) (gatheredReply (singles xs)) pooled n e z,
+            ∙ answer-written (gatherCode xs pooled) (gatheredReply (singles xs)) pooled n e z,
       )

@@ -17,15 +17,15 @@ use lib.ListN.{length, getD, take, drop, replicate}
 use lib.Seq.{drop-drop, take-all}
 use Rattle.octets.specs.Octets.{ofBe, part, put, same, xors}
 use Rattle.octets.proofs.PartLaws.{length-part, part-part, put-lent, length-put, take-put, drop-put}
-use Rattle.scheme.specs.Ladder.{first, ifZero, within}
+use Rattle.scheme.specs.Checks.{first, ifZero, within}
 use Rattle.scheme.specs.Records.{Card, readCard, cardBytes, headFits, cardHead}
 use Rattle.scheme.specs.Tokens.{keyK}
 use Rattle.scheme.specs.Table.{there, value, bodyIn}
-use Rattle.scheme.specs.Judging.{namesFit, counterFits, inside}
+use Rattle.scheme.specs.Judging.{namesFit, counterFits, openedBody}
 use Rattle.scheme.specs.Calls.{turnedCard, closed}
 use Rattle.scheme.specs.Pools.{cutFault, cut, readAll, closedAll, every, distinct, inLimits, poolChecks, poolFault, passes, allPass, poolSum, poolFits, poolVerdict, poolCode, poolCards}
-use Rattle.scheme.proofs.LadderLaws.{rung, both, within-true, kept, done}
-use Rattle.scheme.proofs.RecordLaws.{card-long}
+use Rattle.scheme.proofs.laws.CheckLaws.{first-passed, both, within-true, refusal-kept, answer-written}
+use Rattle.scheme.proofs.laws.RecordLaws.{card-long}
 use Rattle.standard.specs.Standard.{standard}
 use Rattle.cards.specs.Fields.{cardOf}
 use Rattle.cards.specs.declared.Card as DC
@@ -62,7 +62,7 @@ module _ (fit some differ drawn : Bool) where
 module _ (master cards : List ℕ) where
   pub refused : (n : ℕ) → n ≡ cutFault cards → (n ≡ 0 → ⊥) → n ≡ poolFault master cards
   unfolding poolFault
-  refused n e h = e ∙ kept (cutFault cards) _ (cutFault cards) n e h
+  refused n e h = e ∙ refusal-kept (cutFault cards) _ (cutFault cards) n e h
 
   module _ (z : cutFault cards ≡ 0) where
     whole : poolFault master cards ≡ first 0 (poolChecks master cards)
@@ -94,10 +94,10 @@ module _ (master cards : List ℕ) where
     where
       go : (m : ℕ) → cutFault cards ≡ m → ifZero m (first 0 (poolChecks master cards)) m ≡ 0 → Pooled
       go zero k h =
-          let a = rung (eqb (length master) 32, 1) _ (omega arith) h in
-          let b = rung (every cardHead (cut cards), 2) _ (omega arith) (a .1) in
-          let c = rung (every inLimits (cut cards), 3) _ (omega arith) (b .1) in
-          let d = rung (within 2 16 (length (cut cards)) && distinct (readAll (cut cards)), 23) _ (omega arith) (c .1) in
+          let a = first-passed (eqb (length master) 32, 1) _ (omega arith) h in
+          let b = first-passed (every cardHead (cut cards), 2) _ (omega arith) (a .1) in
+          let c = first-passed (every inLimits (cut cards), 3) _ (omega arith) (b .1) in
+          let d = first-passed (within 2 16 (length (cut cards)) && distinct (readAll (cut cards)), 23) _ (omega arith) (c .1) in
           let w = within-true 2 16 (length (cut cards)) (both (within 2 16 (length (cut cards))) (distinct (readAll (cut cards))) (d .0) .0) in
           record { cuts = k; key32 = eqb-true (length master) 32 (a .0); heads = b .0; most = w .1 }
       go (suc m) k h = absurd (omega arith)
@@ -130,7 +130,7 @@ module _ (master : List ℕ) (c : DC.Card) (entry : List ℕ) where
         let g : clear ≡ true = sym e ∙ f in
         h ∙ ap (λ (x : List ℕ). there (bodyIn standard x (c .counter) (c .«open_token») rec)) key ∙ rw g
 
-    pub part-token : (x : List ℕ) → x ≡ value (bodyIn standard k (c .counter) (c .«open_token») rec) → x ≡ value (inside standard master (cardOf c) rec)
+    pub part-token : (x : List ℕ) → x ≡ value (bodyIn standard k (c .counter) (c .«open_token») rec) → x ≡ value (openedBody standard master (cardOf c) rec)
     unfolding cardOf
     part-token x h = h ∙ ap (λ (y : List ℕ). value (bodyIn standard y (c .counter) (c .«open_token») rec)) key
 
@@ -161,25 +161,25 @@ module _ (master cards reply sent : List ℕ) (at from : ℕ) (sum : List ℕ) w
     rest-step : (c : Card) → c ≡ readCard (card cards at n)
         → rest master sum (readAll (cut (drop at cards))) (drop from reply) sent
         ≡ (passes standard master c (part from k reply) && allPass standard master after (drop (from + 75) reply)
-        && same (poolSum standard master (xors sum (value (inside standard master c (part 12 63 (part from k reply))))) after (drop (from + 75) reply)) sent)
+        && same (poolSum standard master (xors sum (value (openedBody standard master c (part 12 63 (part from k reply))))) after (drop (from + 75) reply)) sent)
     unfolding allPass poolSum
     rest-step c g =
         ap (λ (cs : List Card). rest master sum cs (drop from reply) sent) (read-more cards at n h ∙ ap (λ (x : Card). x ∷ after) (sym g))
         ∙ ap (λ (ps : List ℕ). passes standard master c (drop from reply) && allPass standard master after ps
-        && same (poolSum standard master (xors sum (value (inside standard master c (part 12 63 (drop from reply))))) after ps) sent) (drop-drop 75 from reply)
+        && same (poolSum standard master (xors sum (value (openedBody standard master c (part 12 63 (drop from reply))))) after ps) sent) (drop-drop 75 from reply)
         ∙ ap₂ (λ (b : Bool) (r : List ℕ). b && allPass standard master after (drop (from + 75) reply)
-        && same (poolSum standard master (xors sum (value (inside standard master c r))) after (drop (from + 75) reply)) sent) (sym (as-lent c)) (sym (inner 12 63 (omega arith)))
+        && same (poolSum standard master (xors sum (value (openedBody standard master c r))) after (drop (from + 75) reply)) sent) (sym (as-lent c)) (sym (inner 12 63 (omega arith)))
 
     module _ (c : DC.Card) (g : cardOf c ≡ readCard (card cards at n)) (holds : Bool) (p : holds ≡ passes standard master (cardOf c) (part from k reply)) where
       pub rest-failed : holds ≡ false → rest master sum (readAll (cut (drop at cards))) (drop from reply) sent ≡ false
       rest-failed f = let q : passes standard master (cardOf c) (part from k reply) ≡ false = sym p ∙ f in rest-step (cardOf c) g ∙ rw q
 
-      pub rest-next : holds ≡ true → (x : List ℕ) → (holds ≡ true → x ≡ value (inside standard master (cardOf c) (part 12 63 (part from k reply))))
+      pub rest-next : holds ≡ true → (x : List ℕ) → (holds ≡ true → x ≡ value (openedBody standard master (cardOf c) (part 12 63 (part from k reply))))
           → (more : List ℕ) → more ≡ xors sum x
           → rest master sum (readAll (cut (drop at cards))) (drop from reply) sent ≡ rest master more after (drop (from + 75) reply) sent
       rest-next f x t more m =
           let q : passes standard master (cardOf c) (part from k reply) ≡ true = sym p ∙ f in
-          let s : xors sum (value (inside standard master (cardOf c) (part 12 63 (part from k reply)))) ≡ more = ap (xors sum) (sym (t f)) ∙ sym m in
+          let s : xors sum (value (openedBody standard master (cardOf c) (part 12 63 (part from k reply)))) ≡ more = ap (xors sum) (sym (t f)) ∙ sym m in
           rest-step (cardOf c) g ∙ rw (q, s)
 
 -- whether a reply is accepted
@@ -268,12 +268,12 @@ module _ (cards : List ℕ) (at : ℕ) where
 module _ (master cards reply : List ℕ) (n : ℕ) (e : n ≡ poolFault master cards) where
   pub judge-kept : (n ≡ 0 → ⊥) → (n ≡ poolCode standard master cards reply) × (cards ≡ poolCards standard master cards reply)
   unfolding poolCode poolCards
-  judge-kept h = (e ∙ kept _ _ (poolFault master cards) n e h, kept _ _ cards n e h)
+  judge-kept h = (e ∙ refusal-kept _ _ (poolFault master cards) n e h, refusal-kept _ _ cards n e h)
 
   pub judge-done : (b : Bool) (r : ℕ) (cards′ : List ℕ) → n ≡ 0 → b ≡ poolFits standard master (readAll (cut cards)) reply → r ≡ cond b 0 11
       → cards′ ≡ closedAll (cut cards) → (r ≡ poolCode standard master cards reply) × (cards′ ≡ poolCards standard master cards reply)
   unfolding poolCode poolCards poolVerdict
   judge-done b r cards′ z f p q = (
-    p ∙ ap (λ (x : Bool). cond x 0 11) f ∙ done _ _ (poolFault master cards) n e z,
-    q ∙ done _ _ cards n e z,
+    p ∙ ap (λ (x : Bool). cond x 0 11) f ∙ answer-written _ _ (poolFault master cards) n e z,
+    q ∙ answer-written _ _ cards n e z,
   )

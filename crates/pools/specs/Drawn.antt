@@ -4,12 +4,14 @@ use Prim.Native.Nat.{ℕ}
 use mathlib.Core.Bool.{Bool, _&&_}
 use mathlib.Core.List.{List, [], _∷_}
 use lib.ListN.{length}
-use Rattle.scheme.specs.Ladder.{within}
+use Rattle.counts.specs.Codes.{outOfLimits, noneOpen, badPool}
+use Rattle.counts.specs.Limits.{leastPooled, mostPooled}
+use Rattle.scheme.specs.Checks.{within}
 use Rattle.scheme.specs.Pools.{cut, readAll, every, inLimits, isOpen, distinct}
 
 abbrev pub drawnChecks : List ℕ → List (Bool × ℕ)
 drawnChecks cards =
-    (every inLimits (cut cards), 3)
-    ∷ (within 2 16 (length (cut cards)) && distinct (readAll (cut cards)), 23)
-    ∷ (every isOpen (cut cards), 9)
+    (every inLimits (cut cards), outOfLimits)
+    ∷ (within leastPooled mostPooled (length (cut cards)) && distinct (readAll (cut cards)), badPool)
+    ∷ (every isOpen (cut cards), noneOpen)
     ∷ []

@@ -6,19 +6,21 @@ ghost use mathlib.Core.List.{[], _∷_, _++_};
 ghost use Prim.Native.Nat.{_+_, _*_, _/_, _%_, _≤_};
 ghost use lib.ListN.{length, take, replicate};
 ghost use Rattle.octets.specs.Octets.{be, put};
+ghost use Rattle.counts.specs.Sizes.{replySize, pooledHead, pooledEntry};
+ghost use Rattle.counts.specs.Lengths.{replyLengthField, pooledHeadLength};
 ghost use Rattle.scheme.specs.Records.{headKnown};
 ghost use Rattle.scheme.specs.Pools as S;
 ghost use Rattle.scheme.specs.Pools.{every, singles};
 
 // Whether every reply has its length field and a version that there is.
 fn heads_fit(replies: &[u8]) -> bool
-    requires { ⌜ length (now replies) % 110 ≡ 0 ⌝ }
-    ensures { λ r. ⌜ r ≡ every (headKnown 108) (singles (now (replies .entry))) ⌝ }
+    requires { ⌜ length (now replies) % replySize ≡ 0 ⌝ }
+    ensures { λ r. ⌜ r ≡ every (headKnown replyLengthField) (singles (now (replies .entry))) ⌝ }
 {
     let mut at: usize = 0;
     while at < replies.len() {
-        let end = at + 110;
-        let fits = records::head_known(&replies[at..end], 108);
+        let end = at + counts::sizes::REPLY;
+        let fits = records::head_known(&replies[at..end], counts::lengths::REPLY);
         if !fits {
             return false;
         }
@@ -33,27 +35,33 @@ fn gather_fault(replies: &[u8], pooled: &[u8]) -> u64
     ensures { λ r. ⌜ r ≡ S.gatherCode (now (replies .entry)) (now (pooled .entry)) ⌝ }
 {
     let long = replies.len() as u64;
-    if long % 110 != 0 {
-        return 1;
+    if long % counts::sizes::REPLY_BYTES != 0 {
+        return counts::codes::WRONG_LENGTH;
     }
     let heads = heads_fit(replies);
     if !heads {
-        return 2;
+        return counts::codes::WRONG_HEADER;
     }
-    let count = long / 110;
-    let some = records::within(2, 16, count);
+    let count = long / counts::sizes::REPLY_BYTES;
+    let some = records::within(
+        counts::limits::LEAST_POOLED,
+        counts::limits::MOST_POOLED,
+        count,
+    );
     if !some {
-        return 23;
+        return counts::codes::BAD_POOL;
     }
-    if pooled.len() as u64 != 37 + 75 * count {
-        return 1;
+    if pooled.len() as u64
+        != counts::sizes::POOLED_HEAD_BYTES + counts::sizes::POOLED_ENTRY_BYTES * count
+    {
+        return counts::codes::WRONG_LENGTH;
     }
     0
 }
 
 // The xor of the digests of all replies.
 fn digest_sum(replies: &[u8]) -> [u8; 32]
-    requires { ⌜ length (now replies) % 110 ≡ 0 ⌝ }
+    requires { ⌜ length (now replies) % replySize ≡ 0 ⌝ }
     ensures { λ r. ⌜ r ≡ S.digestSum (replicate 32 0) (singles (now (replies .entry))) ⌝ }
 {
     let mut sum = [0u8; 32];
@@ -62,37 +70,41 @@ fn digest_sum(replies: &[u8]) -> [u8; 32]
         let a = from + 15;
         let e = a + 32;
         octets::xor_into(&mut sum, &replies[a..e]);
-        from = from + 110;
+        from = from + counts::sizes::REPLY;
     }
     sum
 }
 
 // Writes the 37 bytes that a pooled reply of so many files begins with: length, version 1, their number and the xor of their digests.
 fn put_front(pooled: &mut [u8], count: u64, sum: [u8; 32])
-    requires { ⌜ (37 ≤ length (now pooled)) × (count ≤ 16) ⌝ }
-    ensures { λ _. ⌜ now (pooled .exit) ≡ put 0 (be 2 (35 + 75 * count) ++ (1 ∷ []) ++ be 2 count ++ sum) (now (pooled .entry)) ⌝ }
+    requires { ⌜ (pooledHead ≤ length (now pooled)) × (count ≤ 16) ⌝ }
+    ensures { λ _. ⌜ now (pooled .exit) ≡ put 0 (be 2 (pooledHeadLength + pooledEntry * count) ++ (1 ∷ []) ++ be 2 count ++ sum) (now (pooled .entry)) ⌝ }
 {
-    records::put_head(pooled, 35 + 75 * count, 1);
+    records::put_head(
+        pooled,
+        counts::lengths::POOLED_HEAD + counts::sizes::POOLED_ENTRY_BYTES * count,
+        1,
+    );
     octets::put_be2(pooled, 3, count);
     octets::copy(pooled, 5, &sum);
 }
 
 // Writes id, token number and record of every reply behind the first 37 bytes, which stay.
 fn put_entries(replies: &[u8], pooled: &mut [u8])
-    requires { ⌜ (length (now replies) % 110 ≡ 0) × (length (now pooled) ≡ 37 + 75 * (length (now replies) / 110)) ⌝ }
-    ensures { λ _. ⌜ now (pooled .exit) ≡ take 37 (now (pooled .entry)) ++ S.entries (singles (now (replies .entry))) ⌝ }
+    requires { ⌜ (length (now replies) % replySize ≡ 0) × (length (now pooled) ≡ pooledHead + pooledEntry * (length (now replies) / replySize)) ⌝ }
+    ensures { λ _. ⌜ now (pooled .exit) ≡ take pooledHead (now (pooled .entry)) ++ S.entries (singles (now (replies .entry))) ⌝ }
 {
     let mut at: usize = 0;
-    let mut to: usize = 37;
+    let mut to: usize = counts::sizes::POOLED_HEAD;
     while at < replies.len() {
         let a = at + 3;
         let b = a + 12;
         let d = at + 47;
-        let e = d + 63;
+        let e = d + counts::sizes::RECORD;
         octets::copy(pooled, to, &replies[a..b]);
         octets::copy(pooled, to + 12, &replies[d..e]);
-        at = at + 110;
-        to = to + 75;
+        at = at + counts::sizes::REPLY;
+        to = to + counts::sizes::POOLED_ENTRY;
     }
 }
 
@@ -105,7 +117,7 @@ pub fn gather(replies: &[u8], pooled: &mut [u8]) -> u64
     if fault != 0 {
         return fault;
     }
-    let count = replies.len() as u64 / 110;
+    let count = replies.len() as u64 / counts::sizes::REPLY_BYTES;
     let sum = digest_sum(replies);
     put_front(pooled, count, sum);
     put_entries(replies, pooled);

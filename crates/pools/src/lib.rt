@@ -8,10 +8,11 @@ ghost use lib.Dec.{eqb};
 ghost use lib.ListN.{length, getD, drop, replicate};
 ghost use Rattle.octets.specs.Octets.{ofBe, part};
 ghost use Rattle.octets.specs.Octets as O;
-ghost use Rattle.scheme.specs.Ladder.{first};
+ghost use Rattle.counts.specs.Sizes.{masterSize, recordSize, pooledHead, pooledEntry};
+ghost use Rattle.scheme.specs.Checks.{first};
 ghost use Rattle.scheme.specs.Records.{cardHead};
 ghost use Rattle.scheme.specs.Table.{value};
-ghost use Rattle.scheme.specs.Judging.{inside};
+ghost use Rattle.scheme.specs.Judging.{openedBody};
 ghost use Rattle.scheme.specs.Pools as S;
 ghost use Rattle.scheme.specs.Pools.{cutFault, cut, readAll, every};
 ghost use Rattle.standard.specs.Standard.{standard};
@@ -43,15 +44,15 @@ fn cut_fault(cards: &[u8]) -> u64
     while at < cards.len() {
         let rest = cards.len() - at;
         if rest < 2 {
-            return 1;
+            return counts::codes::WRONG_LENGTH;
         }
         let long = long_at(cards, at);
-        let known = (long == 43) | (long == 63);
+        let known = (long == counts::sizes::CARD) | (long == counts::sizes::TWO_STEP_CARD);
         if !known {
-            return 2;
+            return counts::codes::WRONG_HEADER;
         }
         if rest < long {
-            return 1;
+            return counts::codes::WRONG_LENGTH;
         }
         at = at + long;
     }
@@ -154,18 +155,22 @@ fn drawn_fault(cards: &[u8]) -> u64
 {
     let all = seen(cards);
     if !all.fit {
-        return 3;
+        return counts::codes::OUT_OF_LIMITS;
     }
-    let some = records::within(2, 16, count_of(cards));
+    let some = records::within(
+        counts::limits::LEAST_POOLED,
+        counts::limits::MOST_POOLED,
+        count_of(cards),
+    );
     if !some {
-        return 23;
+        return counts::codes::BAD_POOL;
     }
     let differ = distinct(cards);
     if !differ {
-        return 23;
+        return counts::codes::BAD_POOL;
     }
     if !all.drawn {
-        return 9;
+        return counts::codes::NONE_OPEN;
     }
     0
 }
@@ -178,12 +183,12 @@ fn pool_fault(master: &[u8], cards: &[u8]) -> u64
     if fault != 0 {
         return fault;
     }
-    if master.len() != 32 {
-        return 1;
+    if master.len() != counts::sizes::MASTER {
+        return counts::codes::WRONG_LENGTH;
     }
     let heads = heads_fit(cards);
     if !heads {
-        return 2;
+        return counts::codes::WRONG_HEADER;
     }
     drawn_fault(cards)
 }
@@ -191,12 +196,12 @@ fn pool_fault(master: &[u8], cards: &[u8]) -> u64
 // What a card's 75 bytes of a pooled reply open to, id, i and record: whether they pass as for single judging, and the token where they do. The key of
 // the file is reckoned only where the clear bytes fit.
 fn passes(master: &[u8], c: cards::Card, entry: &[u8]) -> judging::Body
-    requires { ⌜ (length (now master) ≡ 32) × (length (now entry) ≡ 75) ⌝ }
+    requires { ⌜ (length (now master) ≡ masterSize) × (length (now entry) ≡ pooledEntry) ⌝ }
     ensures { λ r. ⌜ r .holds ≡ S.passes standard (now (master .entry)) (cardOf c) (now (entry .entry)) ⌝ }
-    ensures { λ r. ⌜ (r .holds ≡ true → r .token ≡ value (inside standard (now (master .entry)) (cardOf c) (part 12 63 (now (entry .entry))))) ⌝ }
+    ensures { λ r. ⌜ (r .holds ≡ true → r .token ≡ value (openedBody standard (now (master .entry)) (cardOf c) (part 12 recordSize (now (entry .entry))))) ⌝ }
 {
     let id = c.id;
-    let head = records::head_fits(&entry[12..75], 61, c.version);
+    let head = records::head_fits(&entry[12..75], counts::lengths::RECORD, c.version);
     let i = records::be4(entry, 8);
     let names = judging::names_fit(id, c.open_token, &entry[0..8], i, &entry[12..75]);
     let counter = octets::be8(entry, 15);
@@ -213,7 +218,7 @@ fn passes(master: &[u8], c: cards::Card, entry: &[u8]) -> judging::Body
 
 // Whether the xor of the opened tokens is the one that a pooled reply tells. Every byte is looked at before the answer.
 fn is_sum(sum: [u8; 32], reply: &[u8]) -> bool
-    requires { ⌜ 37 ≤ length (now reply) ⌝ }
+    requires { ⌜ pooledHead ≤ length (now reply) ⌝ }
     ensures { λ r. ⌜ r ≡ O.same sum (part 5 32 (now (reply .entry))) ⌝ }
 {
     octets::same(&sum, &reply[5..37])
@@ -222,15 +227,15 @@ fn is_sum(sum: [u8; 32], reply: &[u8]) -> bool
 // Whether every card's part of a pooled reply passes, and the xor of the opened tokens is the one that the reply tells. Stops at the first part that does
 // not pass.
 fn all_pass(master: &[u8], cards: &[u8], reply: &[u8]) -> bool
-    requires { ⌜ (cutFault (now cards) ≡ 0) × (every cardHead (cut (now cards)) ≡ true) × (length (now master) ≡ 32) × (length (now reply) ≡ 37 + 75 * length (cut (now cards))) ⌝ }
-    ensures { λ r. ⌜ r ≡ (S.allPass standard (now (master .entry)) (readAll (cut (now (cards .entry)))) (drop 37 (now (reply .entry))) && O.same (S.poolSum standard (now (master .entry)) (replicate 32 0) (readAll (cut (now (cards .entry)))) (drop 37 (now (reply .entry)))) (part 5 32 (now (reply .entry)))) ⌝ }
+    requires { ⌜ (cutFault (now cards) ≡ 0) × (every cardHead (cut (now cards)) ≡ true) × (length (now master) ≡ masterSize) × (length (now reply) ≡ pooledHead + pooledEntry * length (cut (now cards))) ⌝ }
+    ensures { λ r. ⌜ r ≡ (S.allPass standard (now (master .entry)) (readAll (cut (now (cards .entry)))) (drop pooledHead (now (reply .entry))) && O.same (S.poolSum standard (now (master .entry)) (replicate 32 0) (readAll (cut (now (cards .entry)))) (drop pooledHead (now (reply .entry)))) (part 5 32 (now (reply .entry)))) ⌝ }
 {
     let mut sum = [0u8; 32];
-    let mut from: usize = 37;
+    let mut from: usize = counts::sizes::POOLED_HEAD;
     let mut at: usize = 0;
     while at < cards.len() {
         let end = at + long_at(cards, at);
-        let to = from + 75;
+        let to = from + counts::sizes::POOLED_ENTRY;
         let c = cards::read_card(&cards[at..end]);
         let body = passes(master, c, &reply[from..to]);
         if !body.holds {
@@ -247,10 +252,10 @@ fn all_pass(master: &[u8], cards: &[u8], reply: &[u8]) -> bool
 
 // Whether a pooled reply is accepted on so many cards, up to sixteen.
 fn pool_fits(master: &[u8], cards: &[u8], count: u64, reply: &[u8]) -> bool
-    requires { ⌜ (cutFault (now cards) ≡ 0) × (every cardHead (cut (now cards)) ≡ true) × (length (now master) ≡ 32) × (count ≡ length (cut (now cards))) × (count ≤ 16) ⌝ }
+    requires { ⌜ (cutFault (now cards) ≡ 0) × (every cardHead (cut (now cards)) ≡ true) × (length (now master) ≡ masterSize) × (count ≡ length (cut (now cards))) × (count ≤ 16) ⌝ }
     ensures { λ r. ⌜ r ≡ S.poolFits standard (now (master .entry)) (readAll (cut (now (cards .entry)))) (now (reply .entry)) ⌝ }
 {
-    let long = 35 + 75 * count;
+    let long = counts::lengths::POOLED_HEAD + counts::sizes::POOLED_ENTRY_BYTES * count;
     if reply.len() as u64 != 2 + long {
         return false;
     }
@@ -295,5 +300,5 @@ pub fn judge_pool(master: &[u8], cards: &mut [u8], reply: &[u8]) -> u64
     if fits {
         return 0;
     }
-    11
+    counts::codes::REJECTED
 }

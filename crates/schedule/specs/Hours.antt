@@ -16,6 +16,9 @@ use mathlib.Core.Bool.{Bool, true, false, cond, _&&_, _||_}
 use lib.Dec.{eqb, leb, ltb}
 use lib.ListN.{length}
 use Rattle.octets.specs.Octets.{ofBe, part}
+use Rattle.counts.specs.Codes.{wrongLength, outOfLimits, badTime}
+use Rattle.counts.specs.Sizes.{planSize}
+use Rattle.counts.specs.Limits.{lastMinute, dayMinutes, weekMinutes}
 use Rattle.schedule.specs.Calendar.{weekday, timeFits}
 
 -- "for each weekday from Monday one window that allows draws, start and end minute in 2 bytes each"
@@ -32,7 +35,7 @@ allBelow (suc n) f = allBelow n f && f n
 
 -- "Plan minutes above 1,439 are code 3.": both of a weekday, and those of all seven
 abbrev pub dayFits : List ℕ → ℕ → Bool
-dayFits plan w = leb (startOf plan w) 1439 && leb (endOf plan w) 1439
+dayFits plan w = leb (startOf plan w) lastMinute && leb (endOf plan w) lastMinute
 
 unfoldable pub planFits : List ℕ → Bool
 planFits plan = allBelow 7 (dayFits plan)
@@ -51,7 +54,7 @@ allowed plan w m = own (startOf plan w) (endOf plan w) m || over (startOf plan (
 
 -- k minutes after minute m of weekday w it is minute m + k, from that day's midnight on: a day has 1,440
 unfoldable pub allowedIn : List ℕ → ℕ → ℕ → ℕ → Bool
-allowedIn plan w m k = allowed plan ((w + (m + k) / 1440) % 7) ((m + k) % 1440)
+allowedIn plan w m k = allowed plan ((w + (m + k) / dayMinutes) % 7) ((m + k) % dayMinutes)
 
 -- "the first .. one among" n that start with i
 unfoldable pub firstFrom : (ℕ → Bool) → ℕ → ℕ → ℕ
@@ -60,7 +63,7 @@ firstFrom f i (suc n) = elim (f i) [ true ↦ i | false ↦ firstFrom f (suc i) 
 
 -- "the wait in minutes for the first allowed one among the 10,080 that start with the given one, 10,080 for none"
 unfoldable pub waitFrom : List ℕ → ℕ → ℕ → ℕ
-waitFrom plan w m = firstFrom (allowedIn plan w m) 0 10080
+waitFrom plan w m = firstFrom (allowedIn plan w m) 0 weekMinutes
 
 -- "Given a Gregorian date (year, month, day) .. and a minute .., a call gives the wait"
 unfoldable pub waitAt : List ℕ → ℕ → ℕ → ℕ → ℕ → ℕ
@@ -75,5 +78,5 @@ allowedAt plan year month day minute = allowed plan (weekday year month day) min
 unfoldable pub waitCall : List ℕ → ℕ → ℕ → ℕ → ℕ → ℕ
 waitCall plan year month day minute =
     cond (timeFits year month day minute)
-    (cond (eqb (length plan) 28) (cond (planFits plan) (256 * waitAt plan year month day minute) 3) 1)
-    16
+    (cond (eqb (length plan) planSize) (cond (planFits plan) (256 * waitAt plan year month day minute) outOfLimits) wrongLength)
+    badTime

@@ -5,6 +5,8 @@ ghost use mathlib.Core.Path.{_≡_};
 ghost use mathlib.Core.Bool.{true};
 ghost use Prim.Native.Nat.{_≤_, _<_, _^_};
 ghost use lib.ListN.{length};
+ghost use Rattle.counts.specs.Sizes.{planSize};
+ghost use Rattle.counts.specs.Limits.{dayMinutes, weekMinutes};
 ghost use Rattle.schedule.specs.Calendar as C;
 ghost use Rattle.schedule.specs.Hours as W;
 
@@ -42,7 +44,7 @@ pub fn time_fits(year: u64, month: u64, day: u64, minute: u64) -> bool
         & (month <= 12)
         & (1 <= day)
         & (day <= days)
-        & (minute <= 1439)
+        & (minute <= counts::limits::LAST_MINUTE)
 }
 
 // The days of the first months of a year, so many of them.
@@ -71,7 +73,7 @@ fn weekday(year: u64, month: u64, day: u64) -> usize
 
 // The start minute of a weekday's window.
 fn start_of(plan: &[u8], w: usize) -> u64
-    requires { ⌜ (length (now plan) ≡ 28) × (w < 7) ⌝ }
+    requires { ⌜ (length (now plan) ≡ planSize) × (w < 7) ⌝ }
     ensures { λ r. ⌜ (r ≡ W.startOf (now (plan .entry)) w) × (r < 2 ^ 16) ⌝ }
 {
     octets::be2(plan, 4 * w)
@@ -79,7 +81,7 @@ fn start_of(plan: &[u8], w: usize) -> u64
 
 // The end minute of a weekday's window.
 fn end_of(plan: &[u8], w: usize) -> u64
-    requires { ⌜ (length (now plan) ≡ 28) × (w < 7) ⌝ }
+    requires { ⌜ (length (now plan) ≡ planSize) × (w < 7) ⌝ }
     ensures { λ r. ⌜ r ≡ W.endOf (now (plan .entry)) w ⌝ }
 {
     octets::be2(plan, 4 * w + 2)
@@ -87,13 +89,15 @@ fn end_of(plan: &[u8], w: usize) -> u64
 
 // Whether every minute of a plan is one of a day.
 pub fn plan_fits(plan: &[u8]) -> bool
-    requires { ⌜ length (now plan) ≡ 28 ⌝ }
+    requires { ⌜ length (now plan) ≡ planSize ⌝ }
     ensures { λ r. ⌜ r ≡ W.planFits (now (plan .entry)) ⌝ }
 {
     let mut fits = true;
     let mut w: usize = 0;
     while w < 7 {
-        fits = fits & ((start_of(plan, w) <= 1439) & (end_of(plan, w) <= 1439));
+        fits = fits
+            & ((start_of(plan, w) <= counts::limits::LAST_MINUTE)
+                & (end_of(plan, w) <= counts::limits::LAST_MINUTE));
         w += 1;
     }
     fits
@@ -115,7 +119,7 @@ fn over(s: u64, e: u64, m: u64) -> bool
 
 // Whether minute `m` of weekday `w` is in a window.
 fn in_window(plan: &[u8], w: usize, m: u64) -> bool
-    requires { ⌜ (length (now plan) ≡ 28) × (w < 7) ⌝ }
+    requires { ⌜ (length (now plan) ≡ planSize) × (w < 7) ⌝ }
     ensures { λ r. ⌜ r ≡ W.allowed (now (plan .entry)) w m ⌝ }
 {
     let v = (w + 6) % 7;
@@ -125,8 +129,8 @@ fn in_window(plan: &[u8], w: usize, m: u64) -> bool
 // The wait from minute `m` of weekday `w`: none where that minute is allowed, else until the first window that starts later, which is one of
 // the eight from this day on.
 fn wait_from(plan: &[u8], w: usize, m: u64) -> u64
-    requires { ⌜ (length (now plan) ≡ 28) × (w < 7) × (m < 1440) × (W.planFits (now plan) ≡ true) ⌝ }
-    ensures { λ r. ⌜ (r ≡ W.waitFrom (now (plan .entry)) w m) × (r ≤ 10080) ⌝ }
+    requires { ⌜ (length (now plan) ≡ planSize) × (w < 7) × (m < dayMinutes) × (W.planFits (now plan) ≡ true) ⌝ }
+    ensures { λ r. ⌜ (r ≡ W.waitFrom (now (plan .entry)) w m) × (r ≤ weekMinutes) ⌝ }
 {
     if in_window(plan, w, m) {
         return 0;
@@ -135,18 +139,18 @@ fn wait_from(plan: &[u8], w: usize, m: u64) -> u64
     while k < 8 {
         let v = (w + k) % 7;
         let s = start_of(plan, v);
-        let at = 1440 * (k as u64) + s;
+        let at = counts::limits::DAY_MINUTES * (k as u64) + s;
         if (s != end_of(plan, v)) & (m < at) {
             return at - m;
         }
         k += 1;
     }
-    10080
+    counts::limits::WEEK_MINUTES
 }
 
 // Whether this very minute is in a window, for a date, a minute and a plan that fit.
 pub fn allowed(plan: &[u8], year: u64, month: u64, day: u64, minute: u64) -> bool
-    requires { ⌜ (C.timeFits year month day minute ≡ true) × (length (now plan) ≡ 28) ⌝ }
+    requires { ⌜ (C.timeFits year month day minute ≡ true) × (length (now plan) ≡ planSize) ⌝ }
     ensures { λ r. ⌜ r ≡ W.allowedAt (now (plan .entry)) year month day minute ⌝ }
 {
     in_window(plan, weekday(year, month, day), minute)
@@ -157,13 +161,13 @@ pub fn wait(plan: &[u8], year: u64, month: u64, day: u64, minute: u64) -> u64
     ensures { λ r. ⌜ r ≡ W.waitCall (now (plan .entry)) year month day minute ⌝ }
 {
     if !time_fits(year, month, day, minute) {
-        return 16;
+        return counts::codes::BAD_TIME;
     }
-    if plan.len() != 28 {
-        return 1;
+    if plan.len() != counts::sizes::PLAN {
+        return counts::codes::WRONG_LENGTH;
     }
     if !plan_fits(plan) {
-        return 3;
+        return counts::codes::OUT_OF_LIMITS;
     }
     256 * wait_from(plan, weekday(year, month, day), minute)
 }

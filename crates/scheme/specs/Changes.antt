@@ -1,9 +1,9 @@
 -- Paper 01, "Calls" and "Turned away", with paper 02's #101, #104, #105, #108 and #109: update, delete, append, load and batch, of each the number that it
--- returns and each buffer that it may write. Assumes nothing. A ladder has one line for each step of the order of refusals: 1 for buffers of fixed size,
+-- returns and each buffer that it may write. Assumes nothing. A list of checks has one line for each step of the order of refusals: 1 for buffers of fixed size,
 -- 2, 3, 1 for sizes that follow from fields, 15, 8, 18, 14, 15, 4, 12, 5, 10, 7: the test that must hold, and the code where it fails. A change that is
 -- turned away leaves every buffer as it was.
---   Edit, workOf                                what a change hands over, and the blocks that it changes
---   lateChecks, changeChecks                    the ladder of a change
+--   Change, blockChanges                               what a change hands over, and the blocks that it changes
+--   lateChecks, changeChecks                    the checks of a change
 --   askedCard, committedCard, droppedCard, changedCard   the card while a change is pending, and after
 --   changeCode, changeCard, changeTable, changeTotals   what update, delete, append, load and batch share
 --   updateCode .. batchTotals                   each of the five
@@ -12,27 +12,30 @@ use mathlib.Core.List.{List, [], _∷_, _++_}
 use mathlib.Core.Bool.{Bool, true, _&&_}
 use lib.ListN.{length, replicate}
 use lib.Dec.{eqb, leb, ltb}
-use Rattle.scheme.specs.Ladder.{first, ifZero, within}
+use Rattle.counts.specs.Codes.{wrongLength, badHeader, outOfLimits, noSuchBlock, fileFull, badRecord, tokenOpen, counterAtMost, notWholeBlocks, badBatch, badMark, changePending}
+use Rattle.counts.specs.Sizes.{masterSize, recordSize, totalsSize}
+use Rattle.counts.specs.Limits.{mostBlocks, mostCounter}
+use Rattle.scheme.specs.Checks.{first, ifZero, within}
 use Rattle.scheme.specs.Lists.{pieces}
 use Rattle.scheme.specs.Primitives.{Primitives}
 use Rattle.scheme.specs.Marks.{marksIn, live, deleted, alike, marksFit}
 use Rattle.scheme.specs.Records.{Card, cardBytes, readCard, cardFits, cardSized, cardHead}
-use Rattle.scheme.specs.Tokens.{Change, replaced, added, addedFrom, keyK}
+use Rattle.scheme.specs.Tokens.{BlockChange, replaced, added, addedFrom, keyK}
 use Rattle.scheme.specs.Table.{firstBad, reseal}
-use Rattle.scheme.specs.Batches.{itemsOf, batchFits, itemMarksFit, numbersFit, batchWork}
+use Rattle.scheme.specs.Batches.{itemsOf, batchFits, itemMarksFit, numbersFit, batchChanges}
 use Rattle.scheme.specs.Totals.{totalsBytes, changeTurns, changeHashes}
 
 -- "Update, delete (block number, old block; update also the new one), append (new block)"; "changes hand over the old mark, a byte", "version 1 lends
 -- marks empty": it stands behind the old block; load (new blocks end to end); batch (items end to end)
-pub data Edit : Type 0 where
-  update : ℕ → List ℕ → List ℕ → List ℕ → Edit
-  delete : ℕ → List ℕ → List ℕ → Edit
-  append : List ℕ → Edit
-  load : List ℕ → Edit
-  batch : List ℕ → Edit
+pub data Change : Type 0 where
+  update : ℕ → List ℕ → List ℕ → List ℕ → Change
+  delete : ℕ → List ℕ → List ℕ → Change
+  append : List ℕ → Change
+  load : List ℕ → Change
+  batch : List ℕ → Change
 
 -- the blocks handed over have B bytes, a mark as many as its version says; of a load's length 12 speaks, of a batch's 14
-abbrev pub handedFits : Card → Edit → Bool
+abbrev pub handedFits : Card → Change → Bool
 handedFits c (update m old mark new) = eqb (length old) (c .B) && eqb (length mark) (marksIn (c .version)) && eqb (length new) (c .B)
 handedFits c (delete m old mark) = eqb (length old) (c .B) && eqb (length mark) (marksIn (c .version))
 handedFits c (append new) = eqb (length new) (c .B)
@@ -40,7 +43,7 @@ handedFits c (load blocks) = true
 handedFits c (batch items) = true
 
 -- "after the lengths that follow from fields, a mark above 1 (15)"
-abbrev pub oldMark : Edit → List ℕ
+abbrev pub oldMark : Change → List ℕ
 oldMark (update m old mark new) = mark
 oldMark (delete m old mark) = mark
 oldMark (append new) = []
@@ -54,33 +57,33 @@ loaded c blocks = alike (live (c .version)) (pieces (c .B) (length blocks / c .B
 -- "4 | block number is 0 or above n", "5 | append with n at its most", of a load "code 5 covers one passing the most n"; "just before 5, a load of no
 -- bytes or of a length that B doesn't divide (12)"; "just before 4, a batch of another size or kind, or with numbers that don't rise (14)"; "a mark above 1
 -- (15), in a batch straight after 14"
-abbrev pub placeChecks : Card → Edit → List (Bool × ℕ)
-placeChecks c (update m old mark new) = (within 1 (c .n) m, 4) ∷ []
-placeChecks c (delete m old mark) = (within 1 (c .n) m, 4) ∷ []
-placeChecks c (append new) = (ltb (c .n) 16777216, 5) ∷ []
-placeChecks c (load blocks) = (ltb 0 (length blocks) && eqb (length blocks % c .B) 0, 12) ∷ (leb (c .n + length blocks / c .B) 16777216, 5) ∷ []
-placeChecks c (batch items) = (batchFits c items, 14) ∷ (itemMarksFit (itemsOf c items), 15) ∷ (numbersFit (c .n) (itemsOf c items), 4) ∷ []
+abbrev pub placeChecks : Card → Change → List (Bool × ℕ)
+placeChecks c (update m old mark new) = (within 1 (c .n) m, noSuchBlock) ∷ []
+placeChecks c (delete m old mark) = (within 1 (c .n) m, noSuchBlock) ∷ []
+placeChecks c (append new) = (ltb (c .n) mostBlocks, fileFull) ∷ []
+placeChecks c (load blocks) = (ltb 0 (length blocks) && eqb (length blocks % c .B) 0, notWholeBlocks) ∷ (leb (c .n + length blocks / c .B) mostBlocks, fileFull) ∷ []
+placeChecks c (batch items) = (batchFits c items, badBatch) ∷ (itemMarksFit (itemsOf c items), badMark) ∷ (numbersFit (c .n) (itemsOf c items), noSuchBlock) ∷ []
 
 -- "1 for sizes that follow from fields, then" 15, "8", 18, 14, 15, "4", 12, "5, 10": what a change checks behind 1, 2 and 3 of its card
-abbrev pub lateChecks : Card → List ℕ → Edit → List (Bool × ℕ)
-lateChecks c table edit =
-    (eqb (length table) (c .t * 63) && handedFits c edit, 1)
-    ∷ (marksFit (oldMark edit), 15)
-    ∷ (eqb (c .open′) 0, 8)
-    ∷ (eqb (c .pending) 0, 18)
-    ∷ (placeChecks c edit ++ (ltb (c .last) 4294967295, 10) ∷ [])
+abbrev pub lateChecks : Card → List ℕ → Change → List (Bool × ℕ)
+lateChecks c table change =
+    (eqb (length table) (c .t * recordSize) && handedFits c change, wrongLength)
+    ∷ (marksFit (oldMark change), badMark)
+    ∷ (eqb (c .open′) 0, tokenOpen)
+    ∷ (eqb (c .pending) 0, changePending)
+    ∷ (placeChecks c change ++ (ltb (c .last) mostCounter, counterAtMost) ∷ [])
 
 -- the blocks that are changed, and the contents that are handed over of each: "A deleted block is B zero bytes", "Load appends one or more blocks under
 -- one counter step", "Set-up, append, load and update make blocks live"
-abbrev pub workOf : Card → Edit → List (ℕ × Change)
-workOf c (update m old mark new) = (m, replaced (mark ++ old) (live (c .version) ++ new)) ∷ []
-workOf c (delete m old mark) = (m, replaced (mark ++ old) (deleted (c .version) ++ replicate (c .B) 0)) ∷ []
-workOf c (append new) = (c .n + 1, added (live (c .version) ++ new)) ∷ []
-workOf c (load blocks) = addedFrom (c .n + 1) (loaded c blocks)
-workOf c (batch items) = batchWork (c .version) (c .B) (itemsOf c items)
+abbrev pub blockChanges : Card → Change → List (ℕ × BlockChange)
+blockChanges c (update m old mark new) = (m, replaced (mark ++ old) (live (c .version) ++ new)) ∷ []
+blockChanges c (delete m old mark) = (m, replaced (mark ++ old) (deleted (c .version) ++ replicate (c .B) 0)) ∷ []
+blockChanges c (append new) = (c .n + 1, added (live (c .version) ++ new)) ∷ []
+blockChanges c (load blocks) = addedFrom (c .n + 1) (loaded c blocks)
+blockChanges c (batch items) = batchChanges (c .version) (c .B) (itemsOf c items)
 
 -- "append adds 1 to its n"
-abbrev pub blocksAfter : Card → Edit → ℕ
+abbrev pub blocksAfter : Card → Change → ℕ
 blocksAfter c (update m old mark new) = c .n
 blocksAfter c (delete m old mark) = c .n
 blocksAfter c (append new) = c .n + 1
@@ -140,39 +143,39 @@ module _ (P : Primitives) where
   unfoldable pub unusedBad : List ℕ → Card → List ℕ → ℕ
   unusedBad master c table = firstBad P (keyK P master (c .id)) (c .version) (c .ctr) table (c .t + 1 - c .next) (c .next)
 
-  -- "Changes are lent master, card, table and what their brackets below name": the ladder of a change before it looks at the records of the table
-  abbrev pub changeChecks : List ℕ → List ℕ → List ℕ → Edit → List ℕ → List (Bool × ℕ)
-  changeChecks master card table edit totals =
+  -- "Changes are lent master, card, table and what their brackets below name": the checks of a change before it looks at the records of the table
+  abbrev pub changeChecks : List ℕ → List ℕ → List ℕ → Change → List ℕ → List (Bool × ℕ)
+  changeChecks master card table change totals =
       let c = readCard card in
-      (eqb (length master) 32 && cardSized card && eqb (length totals) 16, 1)
-      ∷ (cardHead card, 2)
-      ∷ (cardFits c, 3)
-      ∷ lateChecks c table edit
+      (eqb (length master) masterSize && cardSized card && eqb (length totals) totalsSize, wrongLength)
+      ∷ (cardHead card, badHeader)
+      ∷ (cardFits c, outOfLimits)
+      ∷ lateChecks c table change
 
-  unfoldable pub changeCode : List ℕ → List ℕ → List ℕ → Edit → List ℕ → ℕ
-  changeCode master card table edit totals =
+  unfoldable pub changeCode : List ℕ → List ℕ → List ℕ → Change → List ℕ → ℕ
+  changeCode master card table change totals =
       let bad = unusedBad master (readCard card) table in
-      first 0 (changeChecks master card table edit totals ++ (eqb bad 0, 7 + 256 * bad) ∷ [])
+      first 0 (changeChecks master card table change totals ++ (eqb bad 0, badRecord + 256 * bad) ∷ [])
 
   -- "The card takes that counter, and append adds 1 to its n"
-  unfoldable pub changeCard : List ℕ → List ℕ → List ℕ → Edit → List ℕ → List ℕ
-  changeCard master card table edit totals =
+  unfoldable pub changeCard : List ℕ → List ℕ → List ℕ → Change → List ℕ → List ℕ
+  changeCard master card table change totals =
       let c = readCard card in
-      ifZero (changeCode master card table edit totals) (cardBytes (changedCard c (blocksAfter c edit))) card
+      ifZero (changeCode master card table change totals) (cardBytes (changedCard c (blocksAfter c change))) card
 
   -- "then all are sealed at" the last issued plus 1, "covering the block or not .. Spent records keep their bytes. With none unused, the card alone changes"
-  unfoldable pub changeTable : List ℕ → List ℕ → List ℕ → Edit → List ℕ → List ℕ
-  changeTable master card table edit totals =
+  unfoldable pub changeTable : List ℕ → List ℕ → List ℕ → Change → List ℕ → List ℕ
+  changeTable master card table change totals =
       let c = readCard card in
-      ifZero (changeCode master card table edit totals)
-      (reseal P master c (workOf c edit) (c .t + 1 - c .next) (c .next) table)
+      ifZero (changeCode master card table change totals)
+      (reseal P master c (blockChanges c change) (c .t + 1 - c .next) (c .next) table)
       table
 
   -- #109: "Set-up, changes and the host's proof write their totals of turns and of block hashes .., 8 bytes each, to a further buffer that refusals leave"
-  unfoldable pub changeTotals : List ℕ → List ℕ → List ℕ → Edit → List ℕ → List ℕ
-  changeTotals master card table edit totals =
+  unfoldable pub changeTotals : List ℕ → List ℕ → List ℕ → Change → List ℕ → List ℕ
+  changeTotals master card table change totals =
       let c = readCard card in
-      ifZero (changeCode master card table edit totals) (totalsBytes (changeTurns P master c (workOf c edit)) (changeHashes P master c (workOf c edit))) totals
+      ifZero (changeCode master card table change totals) (totalsBytes (changeTurns P master c (blockChanges c change)) (changeHashes P master c (blockChanges c change))) totals
 
   abbrev pub updateCode : List ℕ → List ℕ → List ℕ → ℕ → List ℕ → List ℕ → List ℕ → List ℕ → ℕ
   updateCode master card table m old mark new totals = changeCode master card table (update m old mark new) totals

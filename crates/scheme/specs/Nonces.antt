@@ -3,20 +3,20 @@
 --   noncesFrom, sealed, seals   counter and token number of records; of those that a call seals; of those that a list seals
 --   Rising, Once                numbers that rise; pairs of which none occurs twice
 --   OwnLength                   a card is as long as its length field tells
---   OthersTold, Placed          so are the other cards of every pooled judgement in a list; so are all its cards, this one too
+--   OtherLengths, Placed          so are the other cards of every pooled judgement in a list; so are all its cards, this one too
 use Prim.Native.Nat.{ℕ, zero, suc, _+_, _-_, _<_}
 use mathlib.Core.Path.{_≡_}
 use mathlib.Core.List.{List, [], _∷_, _++_}
 use mathlib.Core.Logic.{_≢_}
 use lib.ListN.{length}
 use Rattle.octets.specs.Octets.{ofBe, part}
-use Rattle.scheme.specs.Ladder.{ifZero}
+use Rattle.scheme.specs.Checks.{ifZero}
 use Rattle.scheme.specs.Primitives.{Primitives}
 use Rattle.scheme.specs.Records.{Card, readCard, recordAt}
 use Rattle.scheme.specs.Changes.{changeCard, changeTable}
 use Rattle.scheme.specs.Asks.{askCard, askSecond}
-use Rattle.scheme.specs.Pools.{Told}
-use Rattle.scheme.specs.Runs.{Call, change, ask, commit, drop, draw, judge, pool, Lent, lentCode, lentCard, lentTable, lentAsked}
+use Rattle.scheme.specs.Pools.{OwnLengths}
+use Rattle.scheme.specs.Runs.{Call, change, ask, commit, dropAsk, draw, judge, pool, Lent, lentCode, lentCard, lentTable, lentAsked}
 
 -- above m, each above the one before
 abbrev pub Rising : ℕ → List ℕ → Type 0
@@ -45,27 +45,27 @@ Once (p ∷ ps) = Missing p ps × Once ps
 abbrev pub OwnLength : List ℕ → Type 0
 OwnLength card = length card ≡ 2 + ofBe (part 0 2 card)
 
-abbrev pub OthersIn : Call → Type 0
-OthersIn (change e totals) = Unit {0}
-OthersIn (ask e second totals) = Unit {0}
-OthersIn commit = Unit {0}
-OthersIn drop = Unit {0}
-OthersIn (draw message plan now) = Unit {0}
-OthersIn (judge reply) = Unit {0}
-OthersIn (pool before behind reply) = Told before × Told behind
+abbrev pub OtherLengthsIn : Call → Type 0
+OtherLengthsIn (change e totals) = Unit {0}
+OtherLengthsIn (ask e second totals) = Unit {0}
+OtherLengthsIn commit = Unit {0}
+OtherLengthsIn dropAsk = Unit {0}
+OtherLengthsIn (draw message plan now) = Unit {0}
+OtherLengthsIn (judge reply) = Unit {0}
+OtherLengthsIn (pool before behind reply) = OwnLengths before × OwnLengths behind
 
-abbrev pub OthersTold : List Lent → Type 0
-OthersTold [] = Unit {0}
-OthersTold (x ∷ xs) = OthersIn (x .call) × OthersTold xs
+abbrev pub OtherLengths : List Lent → Type 0
+OtherLengths [] = Unit {0}
+OtherLengths (x ∷ xs) = OtherLengthsIn (x .call) × OtherLengths xs
 
 abbrev pub PlacedIn : Call → List ℕ → Type 0
 PlacedIn (change e totals) card = Unit {0}
 PlacedIn (ask e second totals) card = Unit {0}
 PlacedIn commit card = Unit {0}
-PlacedIn drop card = Unit {0}
+PlacedIn dropAsk card = Unit {0}
 PlacedIn (draw message plan now) card = Unit {0}
 PlacedIn (judge reply) card = Unit {0}
-PlacedIn (pool before behind reply) card = Told before × OwnLength card × Told behind
+PlacedIn (pool before behind reply) card = OwnLengths before × OwnLength card × OwnLengths behind
 
 module _ (P : Primitives) where
   -- a change, in one step or asked, takes a counter: the last issued on the card that it leaves; no other call of a list does
@@ -73,7 +73,7 @@ module _ (P : Primitives) where
   takes master (change e totals) card table = (readCard (changeCard P master card table e totals)) .last ∷ []
   takes master (ask e second totals) card table = (readCard (askCard P master card table second e totals)) .last ∷ []
   takes master commit card table = []
-  takes master drop card table = []
+  takes master dropAsk card table = []
   takes master (draw message plan now) card table = []
   takes master (judge reply) card table = []
   takes master (pool before behind reply) card table = []
@@ -83,7 +83,7 @@ module _ (P : Primitives) where
   writes master (change e totals) card table = unusedNonces (readCard card) (changeTable P master card table e totals)
   writes master (ask e second totals) card table = unusedNonces (readCard card) (askSecond P master card table second e totals)
   writes master commit card table = []
-  writes master drop card table = []
+  writes master dropAsk card table = []
   writes master (draw message plan now) card table = []
   writes master (judge reply) card table = []
   writes master (pool before behind reply) card table = []

@@ -1,5 +1,5 @@
 -- Lists of calls on bytes, each call under a role. Assumes nothing.
---   Call, deedOf, Lent          a call's arguments without card and table; what it does; with its role and the master that it is lent
+--   Call, callPermission, Lent          a call's arguments without card and table; what it does; with its role and the master that it is lent
 --   callCode .. callAsked       a permitted call on card, table and the table last asked for
 --   lentCode .. lentAsked, run  a call under its role, and calls one after the other
 --   faultOf, turnedAway         the code that a call gives in place of what it does
@@ -7,36 +7,37 @@ use Prim.Native.Nat.{ℕ}
 use mathlib.Core.List.{List, [], _∷_}
 use lib.ListN.{length}
 use Rattle.octets.specs.Octets.{part}
-use Rattle.scheme.specs.Ladder.{ifZero}
+use Rattle.counts.specs.Codes.{notPermitted}
+use Rattle.scheme.specs.Checks.{ifZero}
 use Rattle.scheme.specs.Lists.{joined}
 use Rattle.scheme.specs.Primitives.{Primitives}
-use Rattle.scheme.specs.Changes.{Edit, changeCode, changeCard, changeTable}
+use Rattle.scheme.specs.Changes.{Change, changeCode, changeCard, changeTable}
 use Rattle.scheme.specs.Calls.{Moment, drawCode, drawCard, judgeFault, judgeCode, judgeCard}
 use Rattle.scheme.specs.Asks.{askCode, askCard, askSecond, settleCode, commitCard, dropCard}
 use Rattle.scheme.specs.Pools.{pooled, poolFault, poolCode, poolCards}
-use Rattle.scheme.specs.Roles.{Deed, toCommit, toDrop, toDraw, toJudge, toPool, editDeed, under}
+use Rattle.scheme.specs.Roles.{Permission, mayCommit, mayDrop, mayDraw, mayJudge, mayPool, changePermission, under}
 
 -- an update, delete, append, load or batch in one step, with the buffer lent for totals; the same asked, with the buffers lent for the second table and
 -- for totals; commit and drop; draw, with the buffer lent for a message, the plan and the moment; judge, with the reply; a pooled judgement, with the cards
 -- lent before this one and those behind it, and the reply
 pub data Call : Type 0 where
-  change : Edit → List ℕ → Call
-  ask : Edit → List ℕ → List ℕ → Call
+  change : Change → List ℕ → Call
+  ask : Change → List ℕ → List ℕ → Call
   commit : Call
-  drop : Call
+  dropAsk : Call
   draw : List ℕ → List ℕ → Moment → Call
   judge : List ℕ → Call
   pool : List (List ℕ) → List (List ℕ) → List ℕ → Call
 
--- what a call does, which a role must have the right to
-abbrev pub deedOf : Call → Deed
-deedOf (change e totals) = editDeed e
-deedOf (ask e second totals) = editDeed e
-deedOf commit = toCommit
-deedOf drop = toDrop
-deedOf (draw message plan now) = toDraw
-deedOf (judge reply) = toJudge
-deedOf (pool before behind reply) = toPool
+-- what a call does, for which a role must have permission
+abbrev pub callPermission : Call → Permission
+callPermission (change e totals) = changePermission e
+callPermission (ask e second totals) = changePermission e
+callPermission commit = mayCommit
+callPermission dropAsk = mayDrop
+callPermission (draw message plan now) = mayDraw
+callPermission (judge reply) = mayJudge
+callPermission (pool before behind reply) = mayPool
 
 -- a call with the role that makes it and the master that it is lent
 pub record Lent : Type 0 where
@@ -60,7 +61,7 @@ module _ (P : Primitives) where
   callCode master (change e totals) card table = changeCode P master card table e totals
   callCode master (ask e second totals) card table = askCode P master card table second e totals
   callCode master commit card table = settleCode card
-  callCode master drop card table = settleCode card
+  callCode master dropAsk card table = settleCode card
   callCode master (draw message plan now) card table = drawCode P master card message plan now
   callCode master (judge reply) card table = judgeCode P master card reply
   callCode master (pool before behind reply) card table = poolCode P master (pooled before card behind) reply
@@ -69,7 +70,7 @@ module _ (P : Primitives) where
   callCard master (change e totals) card table = changeCard P master card table e totals
   callCard master (ask e second totals) card table = askCard P master card table second e totals
   callCard master commit card table = commitCard card
-  callCard master drop card table = dropCard card
+  callCard master dropAsk card table = dropCard card
   callCard master (draw message plan now) card table = drawCard P master card message plan now
   callCard master (judge reply) card table = judgeCard P master card reply
   -- "In lists, a pooled judgement is a step on each card": what it leaves in this card's place
@@ -80,7 +81,7 @@ module _ (P : Primitives) where
   callTable master (change e totals) card table asked = changeTable P master card table e totals
   callTable master (ask e second totals) card table asked = table
   callTable master commit card table asked = ifZero (settleCode card) asked table
-  callTable master drop card table asked = table
+  callTable master dropAsk card table asked = table
   callTable master (draw message plan now) card table asked = table
   callTable master (judge reply) card table asked = table
   callTable master (pool before behind reply) card table asked = table
@@ -89,23 +90,23 @@ module _ (P : Primitives) where
   callAsked master (change e totals) card table asked = asked
   callAsked master (ask e second totals) card table asked = ifZero (askCode P master card table second e totals) (askSecond P master card table second e totals) asked
   callAsked master commit card table asked = asked
-  callAsked master drop card table asked = asked
+  callAsked master dropAsk card table asked = asked
   callAsked master (draw message plan now) card table asked = asked
   callAsked master (judge reply) card table asked = asked
   callAsked master (pool before behind reply) card table asked = asked
 
   -- under the call's role
   abbrev pub lentCode : Lent → List ℕ → List ℕ → ℕ
-  lentCode x card table = under (x .role) (deedOf (x .call)) (callCode (x .master) (x .call) card table) 22
+  lentCode x card table = under (x .role) (callPermission (x .call)) (callCode (x .master) (x .call) card table) notPermitted
 
   abbrev pub lentCard : Lent → List ℕ → List ℕ → List ℕ
-  lentCard x card table = under (x .role) (deedOf (x .call)) (callCard (x .master) (x .call) card table) card
+  lentCard x card table = under (x .role) (callPermission (x .call)) (callCard (x .master) (x .call) card table) card
 
   abbrev pub lentTable : Lent → List ℕ → List ℕ → List ℕ → List ℕ
-  lentTable x card table asked = under (x .role) (deedOf (x .call)) (callTable (x .master) (x .call) card table asked) table
+  lentTable x card table asked = under (x .role) (callPermission (x .call)) (callTable (x .master) (x .call) card table asked) table
 
   abbrev pub lentAsked : Lent → List ℕ → List ℕ → List ℕ → List ℕ
-  lentAsked x card table asked = under (x .role) (deedOf (x .call)) (callAsked (x .master) (x .call) card table asked) asked
+  lentAsked x card table asked = under (x .role) (callPermission (x .call)) (callAsked (x .master) (x .call) card table asked) asked
 
   -- calls one after the other, each on the card and the tables that the one before left
   unfoldable pub run : List Lent → List ℕ → List ℕ → List ℕ → Ran
@@ -117,11 +118,11 @@ module _ (P : Primitives) where
   faultOf master (change e totals) card table = changeCode P master card table e totals
   faultOf master (ask e second totals) card table = askCode P master card table second e totals
   faultOf master commit card table = settleCode card
-  faultOf master drop card table = settleCode card
+  faultOf master dropAsk card table = settleCode card
   faultOf master (draw message plan now) card table = drawCode P master card message plan now
   faultOf master (judge reply) card table = judgeFault P master card
   faultOf master (pool before behind reply) card table = poolFault master (pooled before card behind)
 
   -- and "ahead of every check", 22
   abbrev pub turnedAway : Lent → List ℕ → List ℕ → ℕ
-  turnedAway x card table = under (x .role) (deedOf (x .call)) (faultOf (x .master) (x .call) card table) 22
+  turnedAway x card table = under (x .role) (callPermission (x .call)) (faultOf (x .master) (x .call) card table) notPermitted

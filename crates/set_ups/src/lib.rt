@@ -1,10 +1,12 @@
-// The call that founds a file: set-up, which writes its card, its table and the totals of its work. A set-up that is turned away leaves all three.
+// The call that founds a file: set-up, which writes its card, its table and its totals. A set-up that is turned away leaves all three.
 // Every function equals a definition of the scheme's Calls at the standard primitives. Nothing is assumed.
 ghost use mathlib.Core.Path.{_≡_};
 ghost use mathlib.Core.Bool.{_&&_};
 ghost use Prim.Native.Nat.{_+_, _*_, _≤_, _<_};
 ghost use lib.Dec.{eqb};
 ghost use lib.ListN.{length};
+ghost use Rattle.counts.specs.Sizes.{masterSize, idSize, recordSize, totalsSize};
+ghost use Rattle.counts.specs.Limits.{mostBlockBytes, mostRows, mostPositions, mostTokens, mostBlocks};
 ghost use Rattle.scheme.specs.Calls as S;
 ghost use Rattle.scheme.specs.Lists.{pieces, recordsFrom};
 ghost use Rattle.scheme.specs.Marks.{versionFits, live, alike};
@@ -17,10 +19,13 @@ ghost use Rattle.tokens.specs.Keyed.{tokenKey};
 
 // Whether the master, the id, the card and the totals that a set-up is lent have their lengths, the card that of some version.
 fn lent_fits(master: &[u8], id: &[u8], card: &[u8], totals: &[u8]) -> bool
-    ensures { λ r. ⌜ r ≡ (eqb (length (now (master .entry))) 32 && eqb (length (now (id .entry))) 8 && cardSized (now (card .entry)) && eqb (length (now (totals .entry))) 16) ⌝ }
+    ensures { λ r. ⌜ r ≡ (eqb (length (now (master .entry))) masterSize && eqb (length (now (id .entry))) idSize && cardSized (now (card .entry)) && eqb (length (now (totals .entry))) totalsSize) ⌝ }
 {
     let sized = cards::sized(card);
-    (master.len() == 32) & (id.len() == 8) & sized & (totals.len() == 16)
+    (master.len() == counts::sizes::MASTER)
+        & (id.len() == counts::sizes::ID)
+        & sized
+        & (totals.len() == counts::sizes::TOTALS)
 }
 
 // Whether there is such a version, and the numbers of a set-up are within their limits.
@@ -51,12 +56,12 @@ fn sizes_fit(
     card: &[u8],
     table: &[u8],
 ) -> bool
-    requires { ⌜ («block_bytes» ≤ 4096) × («blocks_count» ≤ 16777216) × (tokens ≤ 65536) ⌝ }
-    ensures { λ r. ⌜ r ≡ (eqb (length (now (blocks .entry))) («blocks_count» * «block_bytes») && eqb (length (now (card .entry))) (2 + cardLength version) && eqb (length (now (table .entry))) (tokens * 63)) ⌝ }
+    requires { ⌜ («block_bytes» ≤ mostBlockBytes) × («blocks_count» ≤ mostBlocks) × (tokens ≤ mostTokens) ⌝ }
+    ensures { λ r. ⌜ r ≡ (eqb (length (now (blocks .entry))) («blocks_count» * «block_bytes») && eqb (length (now (card .entry))) (2 + cardLength version) && eqb (length (now (table .entry))) (tokens * recordSize)) ⌝ }
 {
     let whole = blocks.len() as u64 == blocks_count * block_bytes;
     let told = card.len() as u64 == 2 + cards::card_length(version);
-    whole & told & (table.len() as u64 == tokens * 63)
+    whole & told & (table.len() as u64 == tokens * counts::sizes::RECORD_BYTES)
 }
 
 // The code of a set-up. Writes nothing.
@@ -78,11 +83,11 @@ fn set_up_code(
 {
     let lent = lent_fits(master, id, card, totals);
     if !lent {
-        return 1;
+        return counts::codes::WRONG_LENGTH;
     }
     let numbers = numbers_fit(version, block_bytes, rows, positions, tokens, blocks_count);
     if !numbers {
-        return 3;
+        return counts::codes::OUT_OF_LIMITS;
     }
     let sizes = sizes_fit(
         version,
@@ -94,7 +99,7 @@ fn set_up_code(
         table,
     );
     if !sizes {
-        return 1;
+        return counts::codes::WRONG_LENGTH;
     }
     0
 }
@@ -102,8 +107,8 @@ fn set_up_code(
 // Fills the table of a new file: record i holds token i over the blocks, all live, sealed in the card's version at counter 0. Each drawn block of a token
 // is hashed once. Answers the turns and the hashes that all tokens took.
 fn fill_table(keys: tokens::Keys, c: cards::Card, blocks: &[u8], table: &mut [u8]) -> counts::Totals
-    requires { ⌜ (c .version < 256) × (1 ≤ c .rows) × (c .rows ≤ 1048576) × (c .«block_bytes» ≤ 4096) × (c .blocks ≤ 16777216) × (length (now blocks) ≡ c .blocks * c .«block_bytes») ⌝ }
-    requires { ⌜ (c .positions ≤ c .rows) × (c .positions ≤ 512) × (c .tokens ≤ 65536) × (length (now table) ≡ c .tokens * 63) ⌝ }
+    requires { ⌜ (c .version < 256) × (1 ≤ c .rows) × (c .rows ≤ mostRows) × (c .«block_bytes» ≤ mostBlockBytes) × (c .blocks ≤ mostBlocks) × (length (now blocks) ≡ c .blocks * c .«block_bytes») ⌝ }
+    requires { ⌜ (c .positions ≤ c .rows) × (c .positions ≤ mostPositions) × (c .tokens ≤ mostTokens) × (length (now table) ≡ c .tokens * recordSize) ⌝ }
     ensures { λ _. ⌜ now (table .exit) ≡ recordsFrom (λ i. sealedRecord standard (keys .k) (c .version) 0 i (T.digest standard (tokenKey (keys .w) i) (tokenKey (keys .z) i) (c .rows) (c .positions) (alike (live (c .version)) (pieces (c .«block_bytes») (c .blocks) (now (blocks .entry)))))) (c .tokens) 1 ⌝ }
     ensures { λ r. ⌜ (r .turns ≡ sumFrom (c .tokens) 1 (λ i. digestTurns standard (tokenKey (keys .w) i) (c .rows) (c .positions))) × (r .hashes ≡ sumFrom (c .tokens) 1 (λ i. digestHashes standard (tokenKey (keys .w) i) (c .rows) (c .positions) (c .blocks))) ⌝ }
 {
@@ -136,7 +141,7 @@ fn fill_table(keys: tokens::Keys, c: cards::Card, blocks: &[u8], table: &mut [u8
 
 // The eight bytes of a file id.
 fn file_id(id: &[u8]) -> [u8; 8]
-    requires { ⌜ length (now id) ≡ 8 ⌝ }
+    requires { ⌜ length (now id) ≡ idSize ⌝ }
     ensures { λ r. ⌜ r ≡ now (id .entry) ⌝ }
 {
     let mut file = [0u8; 8];
@@ -144,7 +149,7 @@ fn file_id(id: &[u8]) -> [u8; 8]
     file
 }
 
-// Set-up: writes the card and the table of a new file over the blocks present and the totals of its work, and answers 0; a refusal leaves all three. Rows
+// Set-up: writes the card and the table of a new file over the blocks present and its totals, and answers 0; a refusal leaves all three. Rows
 // beyond the blocks are empty and add nothing.
 pub fn set_up(
     master: &[u8],
@@ -199,8 +204,8 @@ pub fn set_up(
         pending: 0,
         count: 0,
     };
-    let work = fill_table(keys, c, blocks, table);
+    let changes = fill_table(keys, c, blocks, table);
     cards::write_card(card, c);
-    records::write_totals(totals, work);
+    records::write_totals(totals, changes);
     0
 }

@@ -15,13 +15,13 @@ use Rattle.octets.proofs.PartLaws.{part-part}
 use Rattle.chacha20.specs.ChaCha20.{keyWords}
 use Rattle.scheme.specs.Lists.{pieces}
 use Rattle.scheme.specs.Marks.{live, alike}
-use Rattle.scheme.specs.Tokens.{Change, added, addedFrom, rowOf, workedDigest}
-use Rattle.scheme.specs.Totals.{workTurns, workHashes}
+use Rattle.scheme.specs.Tokens.{BlockChange, added, addedFrom, rowOf, digestAfter}
+use Rattle.scheme.specs.Totals.{tokenTurns, tokenHashes}
 use Rattle.standard.specs.Standard.{standard}
 use Rattle.cycle_walks.specs.Along.{turnsAlong}
-use Rattle.tokens.specs.Keyed.{changeOf, Done}
-use Rattle.block_changes.specs.Items.{numberAt, changeAt, severalAt}
-use Rattle.block_changes.specs.declared.Work.{Work}
+use Rattle.tokens.specs.Keyed.{blockChangeOf, Done}
+use Rattle.block_changes.specs.BlockChanges.{numberAt, blockChangeAt, severalAt}
+use Rattle.block_changes.specs.declared.BlockChanges.{BlockChanges}
 use Rattle.block_changes.proofs.ListLaws.{items-same, items-added}
 use Rattle.token_updates.specs.Runs.{firsts}
 use Rattle.token_updates.proofs.ItemLaws.{number-next, walked-none, walks-from}
@@ -44,10 +44,10 @@ pieces-taken B (suc n) xs h =
     ∙ ap₂ (λ (u : List ℕ) (v : List (List ℕ)). u ∷ v) (take-take B (B + n * B) xs (omega arith))
     (ap (pieces B n) (drop-taken B (n * B) xs (omega arith)) ∙ pieces-taken B n (drop B xs) inside)
 
-module _ (w : Work) (new : List ℕ) (n : ℕ) (l : w .listed ≡ false) (next : n + 1 ≡ w .first) where
+module _ (w : BlockChanges) (new : List ℕ) (n : ℕ) (l : w .listed ≡ false) (next : n + 1 ≡ w .first) where
   fresh-item : (e : ℕ) → w .fresh ≡ true
-      → _≡_ {A = ℕ × Change} (numberAt w new e, severalAt w new e) (w .first + e, added (live (w .version) ++ part (e * w .size) (w .size) new))
-  unfolding numberAt changeAt changeOf
+      → _≡_ {A = ℕ × BlockChange} (numberAt w new e, severalAt w new e) (w .first + e, added (live (w .version) ++ part (e * w .size) (w .size) new))
+  unfolding numberAt blockChangeAt blockChangeOf
   fresh-item e f = rw (l, f)
 
   firsts-added : w .fresh ≡ true → w .count * w .size ≤ length new
@@ -67,22 +67,22 @@ module _ (w : Work) (new : List ℕ) (n : ℕ) (l : w .listed ≡ false) (next :
       rw (z, number-next w new e l .0, m) (omega arith)
 
   turns-added : (k words : List ℕ) → words ≡ keyWords k
-      → turnsAlong words (w .rows) n (w .count) ≡ workTurns standard k (w .rows) (firsts w new (w .count))
+      → turnsAlong words (w .rows) n (w .count) ≡ tokenTurns standard k (w .rows) (firsts w new (w .count))
   turns-added k words ew =
       let z : 0 + w .count ≡ w .count = omega arith in
       let all = walks-from w new k words 0 (w .count) (λ e. (n + e) % w .rows) ew (λ e h. row-added e) in
-      sym (ap (λ (m : ℕ). workTurns standard k (w .rows) (firsts w new m)) (sym z) ∙ all ∙ omega (arith, walked-none w new k (w .rows)))
+      sym (ap (λ (m : ℕ). tokenTurns standard k (w .rows) (firsts w new m)) (sym z) ∙ all ∙ omega (arith, walked-none w new k (w .rows)))
 
   pub done-added : (k words c′ c x : List ℕ) (news : List (List ℕ)) (y : List ℕ) (turns hashes : ℕ) → w .fresh ≡ true → w .count * w .size ≤ length new
       → news ≡ alike (live (w .version)) (pieces (w .size) (w .count) (take (w .count * w .size) new)) → words ≡ keyWords k → c′ ≡ c
-      → y ≡ workedDigest standard k c′ (w .rows) (w .positions) (addedFrom (n + 1) news) x
+      → y ≡ digestAfter standard k c′ (w .rows) (w .positions) (addedFrom (n + 1) news) x
       → turns ≡ turnsAlong words (w .rows) n (w .count)
-      → hashes ≡ workHashes standard k (w .rows) (w .positions) (addedFrom (n + 1) news)
+      → hashes ≡ tokenHashes standard k (w .rows) (w .positions) (addedFrom (n + 1) news)
       → Done k c (w .rows) (w .positions) (firsts w new (w .count)) x (record { digest = y; turns = turns; hashes = hashes })
   done-added k words c′ c x news y turns hashes f inside en ew ec ey et eh =
       let same : addedFrom (n + 1) news ≡ firsts w new (w .count) = ap (addedFrom (n + 1)) en ∙ firsts-added f inside in
       record {
-        digest = ey ∙ ap₂ (λ (h : List ℕ) (l : List (ℕ × Change)). workedDigest standard k h (w .rows) (w .positions) l x) ec same;
+        digest = ey ∙ ap₂ (λ (h : List ℕ) (l : List (ℕ × BlockChange)). digestAfter standard k h (w .rows) (w .positions) l x) ec same;
         turns = et ∙ turns-added k words ew;
-        hashes = eh ∙ ap (workHashes standard k (w .rows) (w .positions)) same;
+        hashes = eh ∙ ap (tokenHashes standard k (w .rows) (w .positions)) same;
       }

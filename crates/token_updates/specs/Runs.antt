@@ -1,7 +1,7 @@
 -- A sum on its way through the block changes of a call. Assumes nothing.
 --   firsts w new n               the first n of several block changes
 --   Hashed k c w new n x y h     a digest x becomes y by them, under a token's keys, and takes h hashes
---   Room walks starts ends ps    what is lent to work in: a table, where 256 walks begin and end, and the places of sums
+--   Room walks starts ends ps    scratch space: a table, where 256 walks begin and end, and the places of sums
 --   Made z i run                 where the run has its hash key, it is the token's
 --   Rows w new from n starts     starts has, from 0, the rows of the blocks of n changes, from change `from` on
 --   Placed k w new from n ends   ends has, from 0, the positions that draw these rows
@@ -11,20 +11,20 @@ use mathlib.Core.List.{List}
 use mathlib.Core.Path.{_≡_}
 use lib.ListN.{length, getD}
 use Rattle.hmac.specs.declared.Key.{Key}
-use Rattle.scheme.specs.Tokens.{Change, rowOf, positionOf, workedDigest}
-use Rattle.scheme.specs.Totals.{workHashes}
+use Rattle.scheme.specs.Tokens.{BlockChange, rowOf, positionOf, digestAfter}
+use Rattle.scheme.specs.Totals.{tokenHashes}
 use Rattle.standard.specs.Standard.{standard}
 use Rattle.tokens.specs.Keyed.{tokenKey}
-use Rattle.block_changes.specs.Items.{numberAt, severalAt, itemsBelow}
-use Rattle.block_changes.specs.declared.Work.{Work}
+use Rattle.block_changes.specs.BlockChanges.{numberAt, severalAt, itemsBelow}
+use Rattle.block_changes.specs.declared.BlockChanges.{BlockChanges}
 use Rattle.token_updates.specs.declared.Run.{Run}
 
-unfoldable pub firsts : Work → List ℕ → ℕ → List (ℕ × Change)
+unfoldable pub firsts : BlockChanges → List ℕ → ℕ → List (ℕ × BlockChange)
 firsts w new n = itemsBelow n (λ e. (numberAt w new e, severalAt w new e))
 
-pub record Hashed (k c : List ℕ) (w : Work) (new : List ℕ) (n : ℕ) (x y : List ℕ) (h : ℕ) : Type 0 where
-  pub digest : y ≡ workedDigest standard k c (w .rows) (w .positions) (firsts w new n) x
-  pub hashes : h ≡ workHashes standard k (w .rows) (w .positions) (firsts w new n)
+pub record Hashed (k c : List ℕ) (w : BlockChanges) (new : List ℕ) (n : ℕ) (x y : List ℕ) (h : ℕ) : Type 0 where
+  pub digest : y ≡ digestAfter standard k c (w .rows) (w .positions) (firsts w new n) x
+  pub hashes : h ≡ tokenHashes standard k (w .rows) (w .positions) (firsts w new n)
 
 pub record Room (walks starts ends ps : List ℕ) : Type 0 where
   pub walks-long : length walks ≡ 8192
@@ -35,8 +35,8 @@ pub record Room (walks starts ends ps : List ℕ) : Type 0 where
 abbrev pub Made : Key → ℕ → Run → Type 0
 Made z i run = run .made ≡ true → run .c ≡ tokenKey z i
 
-abbrev pub Rows : Work → List ℕ → ℕ → ℕ → List ℕ → Type 0
+abbrev pub Rows : BlockChanges → List ℕ → ℕ → ℕ → List ℕ → Type 0
 Rows w new from n starts = (e : ℕ) → e < n → getD starts e 0 ≡ rowOf (w .rows) (numberAt w new (from + e)) - 1
 
-abbrev pub Placed : List ℕ → Work → List ℕ → ℕ → ℕ → List ℕ → Type 0
+abbrev pub Placed : List ℕ → BlockChanges → List ℕ → ℕ → ℕ → List ℕ → Type 0
 Placed k w new from n ends = (e : ℕ) → e < n → getD ends e 0 + 1 ≡ positionOf standard k (w .rows) (rowOf (w .rows) (numberAt w new (from + e)))

@@ -2,7 +2,7 @@
 // hashes of the old and the new content; and how many turns and hashes that takes. Every function equals a definition of specs/ or of the scheme's
 // Tokens and Totals at the standard primitives. Nothing is assumed.
 // A block change that comes alone is a walk and the lent running hash, and needs no room. Several are walked back side by side over one table of the
-// round function, where that is quicker by the number of blocks, and what is drawn is hashed as sums takes it. Where such a table stands and
+// round function, where that is quicker by the number of blocks, and what is drawn is hashed as hash_queue takes it. Where such a table stands and
 // very many blocks are added, those drawn are found by walks forward from the positions, as set-up finds them, and the walks back are
 // counted alone. The turns of the walks back are told, and the hashes of contents; neither what fills the table nor the walks forward.
 ghost use mathlib.Core.Path.{_≡_};
@@ -14,74 +14,92 @@ ghost use Rattle.chacha20.specs.ChaCha20.{keyWords};
 ghost use Rattle.permutation.specs.Rounds.{half};
 ghost use Rattle.permutation.specs.Table.{Tabled};
 ghost use Rattle.scheme.specs.Tokens as T;
-ghost use Rattle.scheme.specs.Totals.{workTurns};
+ghost use Rattle.scheme.specs.Totals.{tokenTurns};
 ghost use Rattle.standard.specs.Standard.{standard};
 ghost use Rattle.tokens.specs.Keyed.{tokenKey, Done};
-ghost use Rattle.hash_queue.specs.Waiting.{held, Sound};
-ghost use Rattle.block_changes.specs.Items.{numberAt, itemsOf, alone, Lent, Several, Fits};
+ghost use Rattle.hash_queue.specs.Waiting.{flushed, Sound};
+ghost use Rattle.block_changes.specs.BlockChanges.{numberAt, itemsOf, alone, Lent, Several, Fits};
 ghost use Rattle.token_updates.specs.Runs.{firsts, Rows, Hashed, Room, Made, Placed};
 
 mod loads;
 
 // Writes the rows, from 0, of n added blocks, from change `from` on: one behind the other.
-fn lay_added(work: block_changes::Work, new: &[u8], from: u64, n: usize, starts: &mut [u64])
-    requires { ⌜ Several work (now new) × (work .listed ≡ false) × (from + n ≤ work .count) × (1 ≤ n) × (n ≤ length (now starts)) ⌝ }
-    ensures { λ _. ⌜ Rows work (now (new .entry)) from n (now (starts .exit)) ⌝ }
+fn lay_added(
+    changes: block_changes::BlockChanges,
+    new: &[u8],
+    from: u64,
+    n: usize,
+    starts: &mut [u64],
+)
+    requires { ⌜ Several changes (now new) × (changes .listed ≡ false) × (from + n ≤ changes .count) × (1 ≤ n) × (n ≤ length (now starts)) ⌝ }
+    ensures { λ _. ⌜ Rows changes (now (new .entry)) from n (now (starts .exit)) ⌝ }
 {
-    let m = block_changes::number_of(work, new, from);
-    let row = tokens::row_of(work.rows, m);
+    let m = block_changes::number_of(changes, new, from);
+    let row = tokens::row_of(changes.rows, m);
     let mut at = row.0 - 1;
     let mut e: usize = 0;
     while e < n {
         starts[e] = at;
-        at = cycle_walks::next_row(work.rows, at);
+        at = cycle_walks::next_row(changes.rows, at);
         e += 1;
     }
 }
 
 // Writes the rows, from 0, of the blocks of n changes, from change `from` on.
-fn lay_each(work: block_changes::Work, new: &[u8], from: u64, n: usize, starts: &mut [u64])
-    requires { ⌜ Several work (now new) × (from + n ≤ work .count) × (n ≤ length (now starts)) ⌝ }
-    ensures { λ _. ⌜ Rows work (now (new .entry)) from n (now (starts .exit)) ⌝ }
+fn lay_each(
+    changes: block_changes::BlockChanges,
+    new: &[u8],
+    from: u64,
+    n: usize,
+    starts: &mut [u64],
+)
+    requires { ⌜ Several changes (now new) × (from + n ≤ changes .count) × (n ≤ length (now starts)) ⌝ }
+    ensures { λ _. ⌜ Rows changes (now (new .entry)) from n (now (starts .exit)) ⌝ }
 {
     let mut e: usize = 0;
     while e < n {
-        let m = block_changes::number_of(work, new, from + e as u64);
-        let row = tokens::row_of(work.rows, m);
+        let m = block_changes::number_of(changes, new, from + e as u64);
+        let row = tokens::row_of(changes.rows, m);
         starts[e] = row.0 - 1;
         e += 1;
     }
 }
 
 // Writes where n walks begin: the rows of change `from` and of those behind it, from 0.
-fn lay_rows(work: block_changes::Work, new: &[u8], from: u64, n: usize, starts: &mut [u64])
-    requires { ⌜ Several work (now new) × (from + n ≤ work .count) × (1 ≤ n) × (n ≤ length (now starts)) ⌝ }
-    ensures { λ _. ⌜ Rows work (now (new .entry)) from n (now (starts .exit)) ⌝ }
+fn lay_rows(
+    changes: block_changes::BlockChanges,
+    new: &[u8],
+    from: u64,
+    n: usize,
+    starts: &mut [u64],
+)
+    requires { ⌜ Several changes (now new) × (from + n ≤ changes .count) × (1 ≤ n) × (n ≤ length (now starts)) ⌝ }
+    ensures { λ _. ⌜ Rows changes (now (new .entry)) from n (now (starts .exit)) ⌝ }
 {
-    if work.listed {
-        lay_each(work, new, from, n, starts);
+    if changes.listed {
+        lay_each(changes, new, from, n, starts);
         return;
     }
-    lay_added(work, new, from, n, starts);
+    lay_added(changes, new, from, n, starts);
 }
 
 // Walks back from the rows of n changes, from change `from` on: writes the positions that draw them, from 0, and answers how many turns that took.
 fn walk_some(
     words: [u32; 8],
     table: &[u16],
-    work: block_changes::Work,
+    changes: block_changes::BlockChanges,
     from: u64,
     n: usize,
     new: &[u8],
     starts: &mut [u64],
     ends: &mut [u64],
 ) -> u64
-    requires { ⌜ Several work (now new) × (from + n ≤ work .count) × (1 ≤ n) × (n ≤ 256) × Tabled words (half (work .rows)) (now table) × (length (now starts) ≡ 256) × (length (now ends) ≡ 256) ⌝ }
+    requires { ⌜ Several changes (now new) × (from + n ≤ changes .count) × (1 ≤ n) × (n ≤ 256) × Tabled words (half (changes .rows)) (now table) × (length (now starts) ≡ 256) × (length (now ends) ≡ 256) ⌝ }
     ensures { λ r. ⌜ r ≤ n * 1048576 ⌝ }
-    ensures { λ r. ⌜ ((k : List ℕ) → words ≡ keyWords k → Placed k work (now (new .entry)) from n (now (ends .exit)) × (workTurns standard k (work .rows) (firsts work (now (new .entry)) (from + n)) ≡ workTurns standard k (work .rows) (firsts work (now (new .entry)) from) + r)) ⌝ }
+    ensures { λ r. ⌜ ((k : List ℕ) → words ≡ keyWords k → Placed k changes (now (new .entry)) from n (now (ends .exit)) × (tokenTurns standard k (changes .rows) (firsts changes (now (new .entry)) (from + n)) ≡ tokenTurns standard k (changes .rows) (firsts changes (now (new .entry)) from) + r)) ⌝ }
 {
-    lay_rows(work, new, from, n, starts);
-    cycle_walks::backward_each(words, table, work.rows, n, starts, ends)
+    lay_rows(changes, new, from, n, starts);
+    cycle_walks::backward_each(words, table, changes.rows, n, starts, ends)
 }
 
 // A sum on its way through block changes, the hashes that it took, and the token's hash key, which is made when the first drawn block comes.
@@ -104,32 +122,32 @@ fn key_of(run: Run, z: hmac::Key, i: counts::Token) -> [u8; 32]
     tokens::token_key(z, i)
 }
 
-// The run with block change e, whose block lies in the row that position `seat` + 1 draws.
+// The run with block change e, whose block lies in the row that position `j0` + 1 draws.
 fn add_item(
     run: Run,
     z: hmac::Key,
     i: counts::Token,
-    work: block_changes::Work,
+    changes: block_changes::BlockChanges,
     e: u64,
-    seat: u64,
+    j0: u64,
     f: hash_queue::Form,
     new: &[u8],
     pad: &[u8],
     p: &mut [u8],
     at: &mut [usize; 16],
 ) -> Run
-    requires { ⌜ Several work (now new) × (e < work .count) × (seat < work .positions) ⌝ }
-    requires { ⌜ Made z (i .0) run × (run .hashes ≤ e * 2) × Fits f (work .version) (work .size) (now pad) (now p) × Sound (run .sum) f (now new) (now at) ⌝ }
+    requires { ⌜ Several changes (now new) × (e < changes .count) × (j0 < changes .positions) ⌝ }
+    requires { ⌜ Made z (i .0) run × (run .hashes ≤ e * 2) × Fits f (changes .version) (changes .size) (now pad) (now p) × Sound (run .sum) f (now new) (now at) ⌝ }
     ensures { λ r. ⌜ Made z (i .0) r × (r .hashes ≤ (e + 1) * 2) × Sound (r .sum) f (now (new .entry)) (now (at .exit)) ⌝ }
-    ensures { λ r. ⌜ ((k x : List ℕ) → seat + 1 ≡ T.positionOf standard k (work .rows) (T.rowOf (work .rows) (numberAt work (now (new .entry)) e)) → Hashed k (tokenKey z (i .0)) work (now (new .entry)) e x (held (run .sum) f (now (new .entry)) (now (at .entry)) (now (p .entry))) (run .hashes) → Hashed k (tokenKey z (i .0)) work (now (new .entry)) (e + 1) x (held (r .sum) f (now (new .entry)) (now (at .exit)) (now (p .exit))) (r .hashes)) ⌝ }
+    ensures { λ r. ⌜ ((k x : List ℕ) → j0 + 1 ≡ T.positionOf standard k (changes .rows) (T.rowOf (changes .rows) (numberAt changes (now (new .entry)) e)) → Hashed k (tokenKey z (i .0)) changes (now (new .entry)) e x (flushed (run .sum) f (now (new .entry)) (now (at .entry)) (now (p .entry))) (run .hashes) → Hashed k (tokenKey z (i .0)) changes (now (new .entry)) (e + 1) x (flushed (r .sum) f (now (new .entry)) (now (at .exit)) (now (p .exit))) (r .hashes)) ⌝ }
 {
     let c = key_of(run, z, i);
-    let m = block_changes::number_of(work, new, e);
-    let column = tokens::column_of(work.rows, m);
-    let index = tokens::index_of(work.rows, column, counts::Position(seat + 1));
+    let m = block_changes::number_of(changes, new, e);
+    let column = tokens::column_of(changes.rows, m);
+    let index = tokens::index_of(changes.rows, column, counts::Position(j0 + 1));
     let s = run.sum;
-    let sum = block_changes::add_contents(s, c, index, work, e, f, new, pad, p, at);
-    let hashes = run.hashes + block_changes::hashes_of(work);
+    let sum = block_changes::add_contents(s, c, index, changes, e, f, new, pad, p, at);
+    let hashes = run.hashes + block_changes::hashes_of(changes);
     Run {
         sum,
         hashes,
@@ -158,7 +176,7 @@ fn add_items(
     run: Run,
     z: hmac::Key,
     i: counts::Token,
-    work: block_changes::Work,
+    changes: block_changes::BlockChanges,
     from: u64,
     n: usize,
     ends: &[u64],
@@ -168,19 +186,19 @@ fn add_items(
     p: &mut [u8],
     at: &mut [usize; 16],
 ) -> Run
-    requires { ⌜ Several work (now new) × (from + n ≤ work .count) × (n ≤ length (now ends)) ⌝ }
-    requires { ⌜ Made z (i .0) run × (run .hashes ≤ from * 2) × Fits f (work .version) (work .size) (now pad) (now p) × Sound (run .sum) f (now new) (now at) ⌝ }
+    requires { ⌜ Several changes (now new) × (from + n ≤ changes .count) × (n ≤ length (now ends)) ⌝ }
+    requires { ⌜ Made z (i .0) run × (run .hashes ≤ from * 2) × Fits f (changes .version) (changes .size) (now pad) (now p) × Sound (run .sum) f (now new) (now at) ⌝ }
     ensures { λ r. ⌜ Made z (i .0) r × (r .hashes ≤ (from + n) * 2) × Sound (r .sum) f (now (new .entry)) (now (at .exit)) ⌝ }
-    ensures { λ r. ⌜ ((k x : List ℕ) → Placed k work (now (new .entry)) from n (now (ends .entry)) → Hashed k (tokenKey z (i .0)) work (now (new .entry)) from x (held (run .sum) f (now (new .entry)) (now (at .entry)) (now (p .entry))) (run .hashes) → Hashed k (tokenKey z (i .0)) work (now (new .entry)) (from + n) x (held (r .sum) f (now (new .entry)) (now (at .exit)) (now (p .exit))) (r .hashes)) ⌝ }
+    ensures { λ r. ⌜ ((k x : List ℕ) → Placed k changes (now (new .entry)) from n (now (ends .entry)) → Hashed k (tokenKey z (i .0)) changes (now (new .entry)) from x (flushed (run .sum) f (now (new .entry)) (now (at .entry)) (now (p .entry))) (run .hashes) → Hashed k (tokenKey z (i .0)) changes (now (new .entry)) (from + n) x (flushed (r .sum) f (now (new .entry)) (now (at .exit)) (now (p .exit))) (r .hashes)) ⌝ }
 {
     let mut going = run;
-    let mut e = next_drawn(work.positions, ends, 0, n);
+    let mut e = next_drawn(changes.positions, ends, 0, n);
     while e < n {
         going = add_item(
             going,
             z,
             i,
-            work,
+            changes,
             from + e as u64,
             ends[e],
             f,
@@ -189,7 +207,7 @@ fn add_items(
             p,
             at,
         );
-        e = next_drawn(work.positions, ends, e + 1, n);
+        e = next_drawn(changes.positions, ends, e + 1, n);
     }
     going
 }
@@ -205,14 +223,14 @@ fn next_of(left: u64) -> u64
     256
 }
 
-// The digest x after several block changes, under the words of the draw key, and the work that it took. The table is empty, or has all values of its
+// The digest x after several block changes, under the words of the draw key, and its totals. The table is empty, or has all values of its
 // round function; p is room for what waits to be hashed, cut as f says, and pad its padding.
 fn several_in(
     words: [u32; 8],
     table: &[u16],
     z: hmac::Key,
     i: counts::Token,
-    work: block_changes::Work,
+    changes: block_changes::BlockChanges,
     f: hash_queue::Form,
     new: &[u8],
     pad: &[u8],
@@ -220,9 +238,9 @@ fn several_in(
     starts: &mut [u64],
     ends: &mut [u64],
     p: &mut [u8],
-) -> counts::Worked
-    requires { ⌜ Several work (now new) × Tabled words (half (work .rows)) (now table) × Fits f (work .version) (work .size) (now pad) (now p) × (length (now starts) ≡ 256) × (length (now ends) ≡ 256) ⌝ }
-    ensures { λ r. ⌜ ((k : List ℕ) → words ≡ keyWords k → Done k (tokenKey z (i .0)) (work .rows) (work .positions) (firsts work (now (new .entry)) (work .count)) x r) ⌝ }
+) -> counts::DigestTotals
+    requires { ⌜ Several changes (now new) × Tabled words (half (changes .rows)) (now table) × Fits f (changes .version) (changes .size) (now pad) (now p) × (length (now starts) ≡ 256) × (length (now ends) ≡ 256) ⌝ }
+    ensures { λ r. ⌜ ((k : List ℕ) → words ≡ keyWords k → Done k (tokenKey z (i .0)) (changes .rows) (changes .positions) (firsts changes (now (new .entry)) (changes .count)) x r) ⌝ }
 {
     let none = [0u8; 32];
     let mut at = [0usize; 16];
@@ -234,17 +252,17 @@ fn several_in(
         c: none,
     };
     let mut turns: u64 = 0;
-    let mut left = work.count;
+    let mut left = changes.count;
     while 0 < left {
         let n = next_of(left);
-        let from = work.count - left;
-        let walked = walk_some(words, table, work, from, n as usize, new, starts, ends);
+        let from = changes.count - left;
+        let walked = walk_some(words, table, changes, from, n as usize, new, starts, ends);
         turns += walked;
         run = add_items(
             run,
             z,
             i,
-            work,
+            changes,
             from,
             n as usize,
             ends,
@@ -258,41 +276,41 @@ fn several_in(
     }
     let sum = run.sum;
     let digest = hash_queue::settled(sum, f, new, &at, p);
-    counts::Worked {
+    counts::DigestTotals {
         digest,
         turns,
         hashes: run.hashes,
     }
 }
 
-// The digest x after several block changes, block by block, under the words of the draw key, and the work that it took. The hash key is made where a block
+// The digest x after several block changes, block by block, under the words of the draw key, and its totals. The hash key is made where a block
 // is drawn.
 fn by_blocks(
     words: [u32; 8],
     table: &[u16],
     z: hmac::Key,
     i: counts::Token,
-    work: block_changes::Work,
+    changes: block_changes::BlockChanges,
     new: &[u8],
     x: [u8; 32],
     starts: &mut [u64],
     ends: &mut [u64],
     p: &mut [u8],
-) -> counts::Worked
-    requires { ⌜ Several work (now new) × Tabled words (half (work .rows)) (now table) × (length (now starts) ≡ 256) × (length (now ends) ≡ 256) × (length (now p) ≡ 3072) ⌝ }
-    ensures { λ r. ⌜ ((k : List ℕ) → words ≡ keyWords k → Done k (tokenKey z (i .0)) (work .rows) (work .positions) (firsts work (now (new .entry)) (work .count)) x r) ⌝ }
+) -> counts::DigestTotals
+    requires { ⌜ Several changes (now new) × Tabled words (half (changes .rows)) (now table) × (length (now starts) ≡ 256) × (length (now ends) ≡ 256) × (length (now p) ≡ 3072) ⌝ }
+    ensures { λ r. ⌜ ((k : List ℕ) → words ≡ keyWords k → Done k (tokenKey z (i .0)) (changes .rows) (changes .positions) (firsts changes (now (new .entry)) (changes .count)) x r) ⌝ }
 {
-    let h = block_changes::head_bytes(work.version);
-    let padding = sha256::pad(h as u64 + work.size);
+    let h = block_changes::head_bytes(changes.version);
+    let padding = sha256::pad(h as u64 + changes.size);
     let bytes = padding.bytes;
     let len = padding.len;
-    let f = hash_queue::form_of(h, work.size as usize, len);
+    let f = hash_queue::form_of(h, changes.size as usize, len);
     several_in(
         words,
         table,
         z,
         i,
-        work,
+        changes,
         f,
         new,
         &bytes[..len],
@@ -303,34 +321,34 @@ fn by_blocks(
     )
 }
 
-// A token's digest x after several block changes, and the work that it took. Its key k is made once.
+// A token's digest x after several block changes, and its totals. Its key k is made once.
 fn several(
     w: hmac::Key,
     z: hmac::Key,
     i: counts::Token,
-    work: block_changes::Work,
+    changes: block_changes::BlockChanges,
     new: &[u8],
     x: [u8; 32],
     walks: &mut [u16],
     starts: &mut [u64],
     ends: &mut [u64],
     p: &mut [u8],
-) -> counts::Worked
-    requires { ⌜ Several work (now new) × Room (now walks) (now starts) (now ends) (now p) ⌝ }
-    ensures { λ r. ⌜ Done (tokenKey w (i .0)) (tokenKey z (i .0)) (work .rows) (work .positions) (firsts work (now (new .entry)) (work .count)) x r ⌝ }
+) -> counts::DigestTotals
+    requires { ⌜ Several changes (now new) × Room (now walks) (now starts) (now ends) (now p) ⌝ }
+    ensures { λ r. ⌜ Done (tokenKey w (i .0)) (tokenKey z (i .0)) (changes .rows) (changes .positions) (firsts changes (now (new .entry)) (changes .count)) x r ⌝ }
 {
     let k = tokens::token_key(w, i);
     let words = chacha20::key_words(&k);
-    let entries = permutation::tabulated(words, work.rows, work.count, walks);
-    if loads::dense(work, entries) {
-        return loads::by_positions(k, &walks[..entries], z, i, work, new, x, p);
+    let entries = permutation::tabulated(words, changes.rows, changes.count, walks);
+    if loads::dense(changes, entries) {
+        return loads::by_positions(k, &walks[..entries], z, i, changes, new, x, p);
     }
     by_blocks(
         words,
         &walks[..entries],
         z,
         i,
-        work,
+        changes,
         new,
         x,
         starts,
@@ -339,13 +357,13 @@ fn several(
     )
 }
 
-// A token's digest x after all block changes, and the work that it took, under the keys W and Z prepared. `old_mark` and `new_mark` are the marks of a change that comes alone.
-// The room to work in, a table, where walks begin and end, and what waits to be hashed, is read and written only where there are several.
-pub fn worked(
+// A token's digest x after all block changes, and its totals, under the keys W and Z prepared. `old_mark` and `new_mark` are the marks of a change that comes alone.
+// The scratch space, a table, where walks begin and end, and what waits to be hashed, is read and written only where there are several.
+pub fn updated(
     w: hmac::Key,
     z: hmac::Key,
     i: counts::Token,
-    work: block_changes::Work,
+    changes: block_changes::BlockChanges,
     old_mark: &[u8],
     old: &[u8],
     new_mark: &[u8],
@@ -355,23 +373,23 @@ pub fn worked(
     starts: &mut [u64],
     ends: &mut [u64],
     p: &mut [u8],
-) -> counts::Worked
-    requires { ⌜ Lent work (now «old_mark») (now old) (now «new_mark») (now new) × (alone work ≡ false → Room (now walks) (now starts) (now ends) (now p)) ⌝ }
-    ensures { λ r. ⌜ Done (tokenKey w (i .0)) (tokenKey z (i .0)) (work .rows) (work .positions) (itemsOf work (now («old_mark» .entry)) (now (old .entry)) (now («new_mark» .entry)) (now (new .entry))) x r ⌝ }
+) -> counts::DigestTotals
+    requires { ⌜ Lent changes (now «old_mark») (now old) (now «new_mark») (now new) × (alone changes ≡ false → Room (now walks) (now starts) (now ends) (now p)) ⌝ }
+    ensures { λ r. ⌜ Done (tokenKey w (i .0)) (tokenKey z (i .0)) (changes .rows) (changes .positions) (itemsOf changes (now («old_mark» .entry)) (now (old .entry)) (now («new_mark» .entry)) (now (new .entry))) x r ⌝ }
 {
-    let one = block_changes::alone(work);
+    let one = block_changes::alone(changes);
     if !one {
-        return several(w, z, i, work, new, x, walks, starts, ends, p);
+        return several(w, z, i, changes, new, x, walks, starts, ends, p);
     }
-    let size = work.size as usize;
-    let m = counts::Block(work.first);
+    let size = changes.size as usize;
+    let m = counts::Block(changes.first);
     tokens::changed(
         w,
         z,
-        work.rows,
-        work.positions,
+        changes.rows,
+        changes.positions,
         m,
-        work.fresh,
+        changes.fresh,
         old_mark,
         &old[..size],
         new_mark,

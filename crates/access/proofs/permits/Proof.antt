@@ -1,9 +1,9 @@
--- What each deed's line of the table says.
+-- What each permission's line of the table says.
 use borrow.Author.Needs.{needs}
 use mathlib.Core.Path.{ap, sym, _∙_}
 use Rattle.scheme.specs.Roles as S
-use Rattle.access.specs.Deeds.{deedOf}
-use Rattle.access.specs.declared.Deed.{Deed}
+use Rattle.access.specs.Permissions.{permissionOf}
+use Rattle.access.specs.declared.Permission.{Permission}
 use Rattle.access.proofs.permits.Statement.{statement}
 use Rattle.access.proofs.permits.Tie as tie
 
@@ -75,47 +75,47 @@ is-either-requires-6 c κs = search needs
 
 returns : tie.Need-returns
 unfolding S.permits
-returns c = c .is .ensures ∙ ap (λ (w : Deed). S.permits (c .before .before .before .args .role) (deedOf w)) (sym (c .before .enum-told .given .1))
+returns c = c .is .ensures ∙ ap (λ (w : Permission). S.permits (c .before .before .before .args .role) (permissionOf w)) (sym (c .before .enum-told .given .1))
 
 returns-2 : tie.Need-returns-2
 unfolding S.permits
-returns-2 c = c .is2 .ensures ∙ ap (λ (w : Deed). S.permits (c .before .before .before .args .role) (deedOf w)) (sym (c .before .enum-told2 .given .1))
+returns-2 c = c .is2 .ensures ∙ ap (λ (w : Permission). S.permits (c .before .before .before .args .role) (permissionOf w)) (sym (c .before .enum-told2 .given .1))
 
 returns-3 : tie.Need-returns-3
 unfolding S.permits
-returns-3 c = c .is-either .ensures ∙ ap (λ (w : Deed). S.permits (c .before .before .before .args .role) (deedOf w)) (sym (c .before .enum-told3 .given .1))
+returns-3 c = c .is-either .ensures ∙ ap (λ (w : Permission). S.permits (c .before .before .before .args .role) (permissionOf w)) (sym (c .before .enum-told3 .given .1))
 
 returns-4 : tie.Need-returns-4
 unfolding S.permits
-returns-4 c = c .is-either2 .ensures ∙ ap (λ (w : Deed). S.permits (c .before .before .before .args .role) (deedOf w)) (sym (c .before .enum-told4 .given .1))
+returns-4 c = c .is-either2 .ensures ∙ ap (λ (w : Permission). S.permits (c .before .before .before .args .role) (permissionOf w)) (sym (c .before .enum-told4 .given .1))
 
 returns-5 : tie.Need-returns-5
 unfolding S.permits
-returns-5 c = c .is3 .ensures ∙ ap (λ (w : Deed). S.permits (c .before .before .before .args .role) (deedOf w)) (sym (c .before .enum-told5 .given .1))
+returns-5 c = c .is3 .ensures ∙ ap (λ (w : Permission). S.permits (c .before .before .before .args .role) (permissionOf w)) (sym (c .before .enum-told5 .given .1))
 
 returns-6 : tie.Need-returns-6
 unfolding S.permits
-returns-6 c = c .is4 .ensures ∙ ap (λ (w : Deed). S.permits (c .before .before .before .args .role) (deedOf w)) (sym (c .before .enum-told6 .given .1))
+returns-6 c = c .is4 .ensures ∙ ap (λ (w : Permission). S.permits (c .before .before .before .args .role) (permissionOf w)) (sym (c .before .enum-told6 .given .1))
 
 returns-7 : tie.Need-returns-7
 unfolding S.permits
-returns-7 c = c .is5 .ensures ∙ ap (λ (w : Deed). S.permits (c .before .before .before .args .role) (deedOf w)) (sym (c .before .enum-told7 .given .1))
+returns-7 c = c .is5 .ensures ∙ ap (λ (w : Permission). S.permits (c .before .before .before .args .role) (permissionOf w)) (sym (c .before .enum-told7 .given .1))
 
 returns-8 : tie.Need-returns-8
 unfolding S.permits
-returns-8 c = c .is-either3 .ensures ∙ ap (λ (w : Deed). S.permits (c .before .before .before .args .role) (deedOf w)) (sym (c .before .enum-told8 .given .1))
+returns-8 c = c .is-either3 .ensures ∙ ap (λ (w : Permission). S.permits (c .before .before .before .args .role) (permissionOf w)) (sym (c .before .enum-told8 .given .1))
 
 returns-9 : tie.Need-returns-9
 unfolding S.permits
-returns-9 c = c .is-either4 .ensures ∙ ap (λ (w : Deed). S.permits (c .before .before .before .args .role) (deedOf w)) (sym (c .before .enum-told9 .given .1))
+returns-9 c = c .is-either4 .ensures ∙ ap (λ (w : Permission). S.permits (c .before .before .before .args .role) (permissionOf w)) (sym (c .before .enum-told9 .given .1))
 
 returns-10 : tie.Need-returns-10
 unfolding S.permits
-returns-10 c = c .is-either5 .ensures ∙ ap (λ (w : Deed). S.permits (c .before .before .before .args .role) (deedOf w)) (sym (c .before .enum-told10 .given .1))
+returns-10 c = c .is-either5 .ensures ∙ ap (λ (w : Permission). S.permits (c .before .before .before .args .role) (permissionOf w)) (sym (c .before .enum-told10 .given .1))
 
 returns-11 : tie.Need-returns-11
 unfolding S.permits
-returns-11 c = c .is-either6 .ensures ∙ ap (λ (w : Deed). S.permits (c .before .before .before .args .role) (deedOf w)) (sym (c .before .enum-told11 .given .1))
+returns-11 c = c .is-either6 .ensures ∙ ap (λ (w : Permission). S.permits (c .before .before .before .args .role) (permissionOf w)) (sym (c .before .enum-told11 .given .1))
 
 pub permits-spec : {M : Type 1} → statement M
 permits-spec =

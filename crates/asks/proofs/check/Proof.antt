@@ -6,9 +6,9 @@ use mathlib.Core.Path.{_≡_, refl, sym, _∙_}
 use mathlib.Core.Bool.{true}
 use borrow.Author.Tests.{eq-eqb, ne-eqb, not-true, not-false}
 use lib.ListN.{length}
-use Rattle.scheme.proofs.LimitLaws.{Limits}
+use Rattle.scheme.proofs.laws.LimitLaws.{Limits}
 use Rattle.cards.proofs.FaultLaws.{head-read, card-of, card-held}
-use Rattle.changes.specs.Edits.{editOf}
+use Rattle.changes.specs.Kinds.{changeOf}
 use Rattle.asks.proofs.AskLaws.{check-short, check-refused, check-of}
 use Rattle.asks.proofs.check.Statement.{statement}
 use Rattle.asks.proofs.check.Tie as tie
@@ -29,8 +29,8 @@ lent-fits-requires c κs = search needs
 returns : tie.Need-returns
 returns c =
     let a = c .before .before .before .before .before .before .before .before .before .before .args in
-    let edit = editOf (a .kind) (a .m) (a .old .now) (a .mark .now) (a .new .now) in
-    check-short (a .master .now) (a .card .now) (a .table .now) (a .second .now) edit (a .totals .now) (sym (c .before .lent-fits .ensures) ∙ not-true _ (c .if1 .taken))
+    let change = changeOf (a .kind) (a .m) (a .old .now) (a .mark .now) (a .new .now) in
+    check-short (a .master .now) (a .card .now) (a .table .now) (a .second .now) change (a .totals .now) (sym (c .before .lent-fits .ensures) ∙ not-true _ (c .if1 .taken))
 
 check-head-requires : tie.Need-check-head-requires
 check-head-requires c κs = search needs
@@ -39,8 +39,8 @@ returns-2 : tie.Need-returns-2
 returns-2 c =
     let head = c .before in
     let a = head .before .before .before .before .before .before .before .before .before .before .before .args in
-    let edit = editOf (a .kind) (a .m) (a .old .now) (a .mark .now) (a .new .now) in
-    check-refused (a .master .now) (a .card .now) (a .table .now) (a .second .now) edit (a .totals .now) (head .check-head .result) (sym (head .before .before .lent-fits .ensures) ∙ not-false _ (head .before .if1 .left))
+    let change = changeOf (a .kind) (a .m) (a .old .now) (a .mark .now) (a .new .now) in
+    check-refused (a .master .now) (a .card .now) (a .table .now) (a .second .now) change (a .totals .now) (head .check-head .result) (sym (head .before .before .lent-fits .ensures) ∙ not-false _ (head .before .if1 .left))
     (head .check-head .ensures) (c .if2 .taken)
 
 read-card-requires : tie.Need-read-card-requires
@@ -51,8 +51,8 @@ returns-3 c =
     let read = c .before .before in
     let head = read .before .before in
     let a = head .before .before .before .before .before .before .before .before .before .before .before .args in
-    let edit = editOf (a .kind) (a .m) (a .old .now) (a .mark .now) (a .new .now) in
-    check-of (a .master .now) (a .card .now) (a .table .now) (a .second .now) edit (a .totals .now) (head .check-head .result) (sym (head .before .before .lent-fits .ensures) ∙ not-false _ (head .before .if1 .left)) (head .check-head .ensures)
+    let change = changeOf (a .kind) (a .m) (a .old .now) (a .mark .now) (a .new .now) in
+    check-of (a .master .now) (a .card .now) (a .table .now) (a .second .now) change (a .totals .now) (head .check-head .result) (sym (head .before .before .lent-fits .ensures) ∙ not-false _ (head .before .if1 .left)) (head .check-head .ensures)
     (read .read-card .result) (read .before .if2 .left) (read .read-card .ensures)
     (ne-eqb (read .read-card .result .version) 3 (c .if3 .taken)) refl refl refl refl
 
@@ -64,8 +64,8 @@ returns-4 c =
     let read = c .before .before .before .before in
     let head = read .before .before in
     let a = head .before .before .before .before .before .before .before .before .before .before .before .args in
-    let edit = editOf (a .kind) (a .m) (a .old .now) (a .mark .now) (a .new .now) in
-    check-of (a .master .now) (a .card .now) (a .table .now) (a .second .now) edit (a .totals .now) (head .check-head .result) (sym (head .before .before .lent-fits .ensures) ∙ not-false _ (head .before .if1 .left)) (head .check-head .ensures)
+    let change = changeOf (a .kind) (a .m) (a .old .now) (a .mark .now) (a .new .now) in
+    check-of (a .master .now) (a .card .now) (a .table .now) (a .second .now) change (a .totals .now) (head .check-head .result) (sym (head .before .before .lent-fits .ensures) ∙ not-false _ (head .before .if1 .left)) (head .check-head .ensures)
     (read .read-card .result) (read .before .if2 .left) (read .read-card .ensures)
     (eq-eqb (read .read-card .result .version) 3 (c .before .before .if3 .left)) (c .before .card-fits .ensures) (not-true _ (c .if4 .taken)) refl refl
 
@@ -79,8 +79,8 @@ returns-5 c =
     let read = c .before .before .before .before .before .before in
     let head = read .before .before in
     let a = head .before .before .before .before .before .before .before .before .before .before .before .args in
-    let edit = editOf (a .kind) (a .m) (a .old .now) (a .mark .now) (a .new .now) in
-    check-of (a .master .now) (a .card .now) (a .table .now) (a .second .now) edit (a .totals .now) (head .check-head .result) (sym (head .before .before .lent-fits .ensures) ∙ not-false _ (head .before .if1 .left)) (head .check-head .ensures)
+    let change = changeOf (a .kind) (a .m) (a .old .now) (a .mark .now) (a .new .now) in
+    check-of (a .master .now) (a .card .now) (a .table .now) (a .second .now) change (a .totals .now) (head .check-head .result) (sym (head .before .before .lent-fits .ensures) ∙ not-false _ (head .before .if1 .left)) (head .check-head .ensures)
     (read .read-card .result) (read .before .if2 .left) (read .read-card .ensures)
     (eq-eqb (read .read-card .result .version) 3 (c .before .before .before .before .if3 .left)) (c .before .before .before .card-fits .ensures) (not-false _ (c .before .before .if4 .left))
     (ne-eqb (length (a .second .now)) (read .read-card .result .tokens * 63) (c .if5 .taken)) refl
@@ -95,8 +95,8 @@ returns-6 c =
     let read = c .before .before .before .before .before .before .before in
     let head = read .before .before in
     let a = head .before .before .before .before .before .before .before .before .before .before .before .args in
-    let edit = editOf (a .kind) (a .m) (a .old .now) (a .mark .now) (a .new .now) in
-    check-of (a .master .now) (a .card .now) (a .table .now) (a .second .now) edit (a .totals .now) (head .check-head .result) (sym (head .before .before .lent-fits .ensures) ∙ not-false _ (head .before .if1 .left)) (head .check-head .ensures)
+    let change = changeOf (a .kind) (a .m) (a .old .now) (a .mark .now) (a .new .now) in
+    check-of (a .master .now) (a .card .now) (a .table .now) (a .second .now) change (a .totals .now) (head .check-head .result) (sym (head .before .before .lent-fits .ensures) ∙ not-false _ (head .before .if1 .left)) (head .check-head .ensures)
     (read .read-card .result) (read .before .if2 .left) (read .read-card .ensures)
     (eq-eqb (read .read-card .result .version) 3 (c .before .before .before .before .before .if3 .left)) (c .before .before .before .before .card-fits .ensures) (not-false _ (c .before .before .before .if4 .left))
     (eq-eqb (length (a .second .now)) (read .read-card .result .tokens * 63) (c .before .if5 .left)) (c .late .ensures)

@@ -3,7 +3,7 @@ use borrow.Author.Needs.{needs}
 use mathlib.Core.Path.{sym, _∙_}
 use Rattle.scheme.specs.Changes.{committedCard}
 use Rattle.scheme.specs.Asks.{commitCard}
-use Rattle.scheme.proofs.LadderLaws.{kept}
+use Rattle.scheme.proofs.laws.CheckLaws.{refusal-kept}
 use Rattle.cards.proofs.FaultLaws.{card-read}
 use Rattle.asks.proofs.SettleLaws.{settle-fine, settled, committed-room}
 use Rattle.asks.proofs.commit.Statement.{statement}
@@ -19,7 +19,7 @@ returns : tie.Need-returns
 unfolding commitCard
 returns c =
     let code = c .before .settle-code in
-    (code .ensures, kept _ _ (c .before .before .before .before .args .card .now) (code .result) (code .ensures) (c .if1 .taken))
+    (code .ensures, refusal-kept _ _ (c .before .before .before .before .args .card .now) (code .result) (code .ensures) (c .if1 .taken))
 
 read-card-requires : tie.Need-read-card-requires
 read-card-requires c κs = card-read (c .before .before .before .before .before .args .card .now) (settle-fine (c .before .before .before .before .before .args .card .now) (c .before .before .settle-code .result) (c .before .before .settle-code .ensures) (c .before .if1 .left))

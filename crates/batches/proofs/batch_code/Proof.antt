@@ -7,7 +7,7 @@ use Prim.Native.Nat.{ℕ, _*_, _/_, _%_}
 use mathlib.Core.Path.{_≡_, sym, ap, _∙_}
 use lib.ListN.{length}
 use Rattle.scheme.specs.Batches.{itemSize}
-use Rattle.scheme.proofs.LadderLaws.{in-range}
+use Rattle.scheme.proofs.laws.CheckLaws.{in-range}
 use Rattle.batches.proofs.FoldLaws.{within-low, within-high, batch-uneven, batch-count, batch-items}
 use Rattle.batches.proofs.batch_code.Statement.{statement}
 use Rattle.batches.proofs.batch_code.Tie as tie

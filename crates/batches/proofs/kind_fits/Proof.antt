@@ -2,7 +2,7 @@
 use borrow.Author.Needs.{needs}
 use native.Mathlib.Omega.{arith}
 use mathlib.Core.Path.{ap}
-use Rattle.scheme.specs.Ladder.{within}
+use Rattle.scheme.specs.Checks.{within}
 use Rattle.batches.proofs.ItemLaws.{item-long, kind-read}
 use Rattle.batches.proofs.kind_fits.Statement.{statement}
 use Rattle.batches.proofs.kind_fits.Tie as tie

@@ -1,4 +1,4 @@
--- What is left to ask stays, item by item, by all-next.
+-- What is itemsLeft to ask stays, item by item, by all-next.
 use borrow.Author.Needs.{needs}
 use native.Mathlib.Omega.{arith}
 use Prim.Native.Nat.{_-_, _≤_}
@@ -6,13 +6,13 @@ use mathlib.Core.Path.{_≡_, sym, _∙_}
 use Rattle.scheme.specs.Batches.{itemsFrom, numbersFit}
 use Rattle.batches.specs.Items.{itemIn}
 use Rattle.batches.proofs.ItemLaws.{item-room}
-use Rattle.scheme.proofs.LadderLaws.{in-range}
-use Rattle.batches.proofs.FoldLaws.{within-low, within-high, left, all-begun, all-failed, all-next, all-done, numberFits, numbers-none, numbers-more}
+use Rattle.scheme.proofs.laws.CheckLaws.{in-range}
+use Rattle.batches.proofs.FoldLaws.{within-low, within-high, itemsLeft, all-begun, all-failed, all-next, all-done, numberFits, numbers-none, numbers-more}
 use Rattle.batches.proofs.numbers_fit.Statement.{statement}
 use Rattle.batches.proofs.numbers_fit.Tie as tie
 
 abbrev Inv-loop : tie.InvT-loop
-Inv-loop n version size count items e₀ e = (e ≤ count) × (numbersFit n (itemsFrom version size count items) ≡ numbersFit n (left version size count e items))
+Inv-loop n version size count items e₀ e = (e ≤ count) × (numbersFit n (itemsFrom version size count items) ≡ numbersFit n (itemsLeft version size count e items))
 
 abbrev μ-loop : tie.MeasureT-loop
 μ-loop n version size count items e₀ e = count - e

@@ -1,4 +1,4 @@
--- What is left to ask stays, item by item, by rise-next.
+-- What is itemsLeft to ask stays, item by item, by rise-next.
 use borrow.Author.Needs.{needs}
 use native.Mathlib.Omega.{arith}
 use Prim.Native.Nat.{ℕ, _+_, _-_, _≤_}
@@ -6,12 +6,12 @@ use mathlib.Core.Path.{_≡_, sym, ap, _∙_}
 use Rattle.scheme.specs.Batches.{itemsFrom, risingFrom}
 use Rattle.scheme.specs.Batches as S
 use Rattle.batches.proofs.ItemLaws.{item-room}
-use Rattle.batches.proofs.FoldLaws.{left, rise-begun, rise-failed, rise-next, rise-done}
+use Rattle.batches.proofs.FoldLaws.{itemsLeft, rise-begun, rise-failed, rise-next, rise-done}
 use Rattle.batches.proofs.rising.Statement.{statement}
 use Rattle.batches.proofs.rising.Tie as tie
 
 abbrev Inv-loop : tie.InvT-loop
-Inv-loop version size count items last₀ e₀ last e = (e ≤ count) × (S.rising (itemsFrom version size count items) ≡ risingFrom last (left version size count e items))
+Inv-loop version size count items last₀ e₀ last e = (e ≤ count) × (S.rising (itemsFrom version size count items) ≡ risingFrom last (itemsLeft version size count e items))
 
 abbrev μ-loop : tie.MeasureT-loop
 μ-loop version size count items last₀ e₀ last e = count - e
@@ -26,7 +26,7 @@ loop-holds c =
     let a = c .before .before .args in (
       omega arith,
       rise-begun (a .version) (a .size) (a .count) (a .items .now) (omega arith)
-          ∙ ap (λ (m : ℕ). risingFrom m (left (a .version) (a .size) (a .count) 1 (a .items .now))) (sym (c .number-of .ensures)),
+          ∙ ap (λ (m : ℕ). risingFrom m (itemsLeft (a .version) (a .size) (a .count) 1 (a .items .now))) (sym (c .number-of .ensures)),
     )
 
 number-of-requires-2 : tie.Need-number-of-requires-2 Inv-loop μ-loop
@@ -54,7 +54,7 @@ loop-again c =
       omega arith,
       l .inv .1
           ∙ rise-next (a .version) (a .size) (a .count) (a .items .now) (l .e) (l .last) (c .before .before .before .loop-test .taken) (omega (arith, e))
-          ∙ ap (λ (m : ℕ). risingFrom m (left (a .version) (a .size) (a .count) (l .e + 1) (a .items .now))) (sym e),
+          ∙ ap (λ (m : ℕ). risingFrom m (itemsLeft (a .version) (a .size) (a .count) (l .e + 1) (a .items .now))) (sym e),
     )
 
 returns-2 : tie.Need-returns-2 Inv-loop μ-loop

@@ -8,7 +8,7 @@ use lib.Seq.{length-take-le}
 use Rattle.octets.specs.Octets.{xors}
 use Rattle.sha256.specs.Sha256.{padding}
 use Rattle.scheme.specs.Marks.{marksIn}
-use Rattle.hash_queue.specs.Waiting.{Cut, held}
+use Rattle.hash_queue.specs.Waiting.{Cut, flushed}
 use Rattle.block_changes.proofs.ContentLaws.{hash-said}
 use Rattle.block_changes.proofs.add_block.Statement.{statement}
 use Rattle.block_changes.proofs.add_block.Tie as tie
@@ -39,12 +39,12 @@ add-requires c κs =
     let s = headed .before .before .before .before in
     let a = s .args in
     let h = measured .head-bytes in
-    let long : length (take (h .result) (headed .head-of .result)) ≡ 36 + marksIn (a .work .version) =
+    let long : length (take (h .result) (headed .head-of .result)) ≡ 36 + marksIn (a .changes .version) =
     length-take-le (h .result) (headed .head-of .result) (omega (arith, head-long headed, h .ensures .1)) ∙ h .ensures .0 in (
       s .pre .1,
-      subst (λ (n : ℕ). Cut (a .f) n (a .work .size)) (sym long) (s .pre .0 .cut),
+      subst (λ (n : ℕ). Cut (a .f) n (a .changes .size)) (sym long) (s .pre .0 .cut),
       s .pre .2,
-      s .pre .0 .padded ∙ ap (λ (n : ℕ). padding (n + a .work .size)) (sym long),
+      s .pre .0 .padded ∙ ap (λ (n : ℕ). padding (n + a .changes .size)) (sym long),
       s .pre .0 .whole,
     )
 
@@ -59,8 +59,8 @@ returns c =
     let a = headed .before .before .before .before .args in (
       added .add .ensures .0,
       added .add .ensures .1
-          ∙ ap (xors (held (a .s) (a .f) (a .far .now) (a .at .now) (a .p .now)))
-          (hash-said (a .c) (headed .head-of .result) (a .index) (a .mark) (marksIn (a .work .version)) (measured .head-bytes .result) (a .a) (a .work .size)
+          ∙ ap (xors (flushed (a .s) (a .f) (a .far .now) (a .at .now) (a .p .now)))
+          (hash-said (a .c) (headed .head-of .result) (a .index) (a .mark) (marksIn (a .changes .version)) (measured .head-bytes .result) (a .a) (a .changes .size)
           (a .far .now) (key-long headed) (headed .head-of .ensures) (measured .head-bytes .ensures .0)),
     )
 

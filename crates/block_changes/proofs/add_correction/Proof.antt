@@ -6,7 +6,7 @@ use mathlib.Core.Path.{refl, sym, ap, _∙_}
 use lib.ListN.{length}
 use Rattle.octets.specs.Octets.{xors}
 use Rattle.scheme.specs.Batches.{itemSize}
-use Rattle.hash_queue.specs.Waiting.{held}
+use Rattle.hash_queue.specs.Waiting.{flushed}
 use Rattle.batches.proofs.ItemLaws.{item-long, item-few, item-room}
 use Rattle.block_changes.proofs.ContentLaws.{updated-mixed, deleted-mixed}
 use Rattle.block_changes.proofs.add_correction.Statement.{statement}
@@ -14,13 +14,13 @@ use Rattle.block_changes.proofs.add_correction.Tie as tie
 
 -- where the item lies
 room : (c : tie.After-item-at)
-    → c .item-at .result + itemSize (c .before .before .before .before .args .work .version) (c .before .before .before .before .args .work .size)
+    → c .item-at .result + itemSize (c .before .before .before .before .args .changes .version) (c .before .before .before .before .args .changes .size)
     ≤ length (c .before .before .before .before .args .new .now)
 room c =
     let s = c .before .before .before .before in
     let a = s .args in
     let l = s .pre .0 .0 .listed (s .pre .0 .1) in
-    omega (arith, c .item-at .ensures, item-room (a .e) (a .work .count) (a .work .version) (a .work .size) _ (s .pre .0 .2) (l .whole))
+    omega (arith, c .item-at .ensures, item-room (a .e) (a .changes .count) (a .changes .version) (a .changes .size) _ (s .pre .0 .2) (l .whole))
 
 few : (c : tie.After-item-at) → c .item-at .result ≤ 524672
 few c =
@@ -30,7 +30,7 @@ few c =
     omega (
       arith,
       c .item-at .ensures,
-      item-few (a .e) (a .work .version) (a .work .size) _ refl (omega (arith, l .few, s .pre .0 .2)) (s .pre .0 .0 .small),
+      item-few (a .e) (a .changes .version) (a .changes .size) _ refl (omega (arith, l .few, s .pre .0 .2)) (s .pre .0 .0 .small),
     )
 
 item-at-requires : tie.Need-item-at-requires
@@ -47,20 +47,20 @@ mark-of-requires c κs =
     let s = c .before .before .before .before in
     let a = s .args in
     let l = s .pre .0 .0 .listed (s .pre .0 .1) in
-    (s .pre .0 .0 .small, omega (arith, l .few, s .pre .0 .2), item-room (a .e) (a .work .count) (a .work .version) (a .work .size) _ (s .pre .0 .2) (l .whole))
+    (s .pre .0 .0 .small, omega (arith, l .few, s .pre .0 .2), item-room (a .e) (a .changes .count) (a .changes .version) (a .changes .size) _ (s .pre .0 .2) (l .whole))
 
 add-block-requires : tie.Need-add-block-requires
 add-block-requires c κs =
     let i = c .before .before .before in
     let s = i .before .before .before .before in
-    (s .pre .1 .0, s .pre .1 .1, omega (arith, room i, item-long (s .args .work .version) (s .args .work .size)))
+    (s .pre .1 .0, s .pre .1 .1, omega (arith, room i, item-long (s .args .changes .version) (s .args .changes .size)))
 
 is-update-requires : tie.Need-is-update-requires
 is-update-requires c κs =
     let s = c .before .before .before .before .before .before .before .before .before .before in
     let a = s .args in
     let l = s .pre .0 .0 .listed (s .pre .0 .1) in
-    (s .pre .0 .0 .small, omega (arith, l .few, s .pre .0 .2), item-room (a .e) (a .work .count) (a .work .version) (a .work .size) _ (s .pre .0 .2) (l .whole))
+    (s .pre .0 .0 .small, omega (arith, l .few, s .pre .0 .2), item-room (a .e) (a .changes .count) (a .changes .version) (a .changes .size) _ (s .pre .0 .2) (l .whole))
 
 add-d : tie.Need-add-d
 add-d c =
@@ -83,7 +83,7 @@ add-block-requires-2 c κs =
     let s = i .before .before .before .before in (
       record { cut = s .pre .1 .0 .cut; padded = s .pre .1 .0 .padded; whole = omega (arith, removed .add-block .kept, s .pre .1 .0 .whole) },
       removed .add-block .ensures .0,
-      omega (arith, room i, item-long (s .args .work .version) (s .args .work .size), counted .marks-in .ensures .0),
+      omega (arith, room i, item-long (s .args .changes .version) (s .args .changes .size), counted .marks-in .ensures .0),
     )
 
 same-length : tie.Need-same-length
@@ -101,9 +101,9 @@ returns c =
     let a = s .args in (
       added .add-block2 .ensures .0,
       added .add-block2 .ensures .1
-          ∙ updated-mixed (a .work) (a .new .now) (a .c) (held (a .s) (a .f) (a .new .now) (a .at .now) (a .p .now)) (a .index) (a .e) (i .item-at .result)
+          ∙ updated-mixed (a .changes) (a .new .now) (a .c) (flushed (a .s) (a .f) (a .new .now) (a .at .now) (a .p .now)) (a .index) (a .e) (i .item-at .result)
           (marked .mark-of .result) _ (s .pre .0 .1) (i .item-at .ensures) (marked .mark-of .ensures) (removed .add-block .ensures .1) _
-          (ap (λ k. i .item-at .result + 5 + a .work .size + k) (counted .marks-in .ensures .0)) (sym (asked .is-update .ensures) ∙ counted .before .if1 .taken),
+          (ap (λ k. i .item-at .result + 5 + a .changes .size + k) (counted .marks-in .ensures .0)) (sym (asked .is-update .ensures) ∙ counted .before .if1 .taken),
     )
 
 deleted-hash-requires : tie.Need-deleted-hash-requires
@@ -128,7 +128,7 @@ returns-2 c =
       more .0 (removed .add-block .ensures .0),
       more .1
           ∙ ap (xors _) (hashed .deleted-hash .ensures)
-          ∙ deleted-mixed (a .work) (a .new .now) (a .c) (held (a .s) (a .f) (a .new .now) (a .at .now) (a .p .now)) (a .index) (a .e) (i .item-at .result)
+          ∙ deleted-mixed (a .changes) (a .new .now) (a .c) (flushed (a .s) (a .f) (a .new .now) (a .at .now) (a .p .now)) (a .index) (a .e) (i .item-at .result)
           (marked .mark-of .result) _ (s .pre .0 .1) (i .item-at .ensures) (marked .mark-of .ensures) (removed .add-block .ensures .1)
           (sym (asked .is-update .ensures) ∙ hashed .before .if1 .left),
     )

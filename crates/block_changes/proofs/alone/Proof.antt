@@ -5,10 +5,10 @@ use Rattle.block_changes.proofs.alone.Statement.{statement}
 use Rattle.block_changes.proofs.alone.Tie as tie
 
 returns : tie.Need-returns
-returns c = alone-listed (c .before .args .work) (c .if1 .taken)
+returns c = alone-listed (c .before .args .changes) (c .if1 .taken)
 
 returns-2 : tie.Need-returns-2
-returns-2 c = alone-counted (c .before .before .args .work) (c .before .if1 .left)
+returns-2 c = alone-counted (c .before .before .args .changes) (c .before .if1 .left)
 
 pub alone-spec : {M : Type 1} → statement M
 alone-spec = tie.close (tie.spec returns returns-2)

@@ -1,7 +1,7 @@
--- What version 3 tells, and what the others read as, by told and untold.
+-- What version 3 tells, and what the others read as, by cond-three and untold.
 use native.Mathlib.Omega.{arith}
 use mathlib.Core.Path.{_∙_}
-use Rattle.cards.proofs.CardLaws.{told, untold}
+use Rattle.cards.proofs.CardLaws.{cond-three, untold}
 use Rattle.cards.proofs.read_asks.Statement.{statement}
 use Rattle.cards.proofs.read_asks.Tie as tie
 
@@ -18,7 +18,7 @@ returns : tie.Need-returns
 returns c =
     let a = c .before .before .before .before .before .args in
     let three = c .before .before .before .if1 .taken in
-    (c .before .before .be8 .ensures ∙ told (a .version) _ (a .counter) three, (c .before .be82 .ensures ∙ told (a .version) _ 0 three, c .be4 .ensures ∙ told (a .version) _ 0 three))
+    (c .before .before .be8 .ensures ∙ cond-three (a .version) _ (a .counter) three, (c .before .be82 .ensures ∙ cond-three (a .version) _ 0 three, c .be4 .ensures ∙ cond-three (a .version) _ 0 three))
 
 returns-2 : tie.Need-returns-2
 returns-2 c =

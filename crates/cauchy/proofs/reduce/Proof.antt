@@ -10,10 +10,10 @@ use Rattle.cauchy.proofs.reduce.Statement.{statement}
 use Rattle.cauchy.proofs.reduce.Tie as tie
 
 abbrev Inv-loop : tie.InvT-loop
-Inv-loop up down w v s us ts₀ i₀ ts i = (i ≤ length us) × (ts ≡ zipTo (reducedOne w v s) i us ts₀) × (length ts ≡ length us)
+Inv-loop exp log w v s us ts₀ i₀ ts i = (i ≤ length us) × (ts ≡ zipTo (reducedOne w v s) i us ts₀) × (length ts ≡ length us)
 
 abbrev μ-loop : tie.MeasureT-loop
-μ-loop up down w v s us ts₀ i₀ ts i = length us - i
+μ-loop exp log w v s us ts₀ i₀ ts i = length us - i
 
 loop-holds : tie.Need-loop-holds Inv-loop μ-loop
 loop-holds c = (search needs, zip-none _ _ _, search needs)

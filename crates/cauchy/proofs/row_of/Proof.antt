@@ -12,10 +12,10 @@ use Rattle.cauchy.proofs.row_of.Statement.{statement}
 use Rattle.cauchy.proofs.row_of.Tie as tie
 
 abbrev Inv-loop : tie.InvT-loop
-Inv-loop up down u vs ds sum₀ i₀ sum i = (i ≤ length vs) × (plus sum (row u (drop i vs) (drop i ds)) ≡ row u vs ds)
+Inv-loop exp log u vs ds sum₀ i₀ sum i = (i ≤ length vs) × (plus sum (row u (drop i vs) (drop i ds)) ≡ row u vs ds)
 
 abbrev μ-loop : tie.MeasureT-loop
-μ-loop up down u vs ds sum₀ i₀ sum i = length vs - i
+μ-loop exp log u vs ds sum₀ i₀ sum i = length vs - i
 
 loop-holds : tie.Need-loop-holds Inv-loop μ-loop
 loop-holds c = (search needs, plus-zero-l _)

@@ -10,10 +10,10 @@ use Rattle.cauchy.proofs.unscale.Statement.{statement}
 use Rattle.cauchy.proofs.unscale.Tie as tie
 
 abbrev Inv-loop : tie.InvT-loop
-Inv-loop up down w v xs es₀ i₀ es i = (i ≤ length xs) × (es ≡ zipTo (unscaledOne w v) i xs es₀) × (length es ≡ length xs)
+Inv-loop exp log w v xs es₀ i₀ es i = (i ≤ length xs) × (es ≡ zipTo (unscaledOne w v) i xs es₀) × (length es ≡ length xs)
 
 abbrev μ-loop : tie.MeasureT-loop
-μ-loop up down w v xs es₀ i₀ es i = length xs - i
+μ-loop exp log w v xs es₀ i₀ es i = length xs - i
 
 loop-holds : tie.Need-loop-holds Inv-loop μ-loop
 loop-holds c = (search needs, zip-none _ _ _, search needs)

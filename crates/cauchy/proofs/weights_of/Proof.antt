@@ -10,10 +10,10 @@ use Rattle.cauchy.proofs.weights_of.Statement.{statement}
 use Rattle.cauchy.proofs.weights_of.Tie as tie
 
 abbrev Inv-loop : tie.InvT-loop
-Inv-loop up down us cs qs out₀ i₀ out i = (i ≤ length qs) × (out ≡ zipTo (first (λ (q : ℕ). row q us cs)) i qs out₀) × (length out ≡ length qs)
+Inv-loop exp log us cs qs out₀ i₀ out i = (i ≤ length qs) × (out ≡ zipTo (first (λ (q : ℕ). row q us cs)) i qs out₀) × (length out ≡ length qs)
 
 abbrev μ-loop : tie.MeasureT-loop
-μ-loop up down us cs qs out₀ i₀ out i = length qs - i
+μ-loop exp log us cs qs out₀ i₀ out i = length qs - i
 
 loop-holds : tie.Need-loop-holds Inv-loop μ-loop
 loop-holds c = (search needs, zip-none _ _ _, search needs)

@@ -1,14 +1,14 @@
--- The block changes of the kind, resealed, their work, and the number of blocks after them, by blocks-after.
+-- The block changes of the kind, resealed, their totals, and the number of blocks after them, by blocks-after.
 use borrow.Author.Needs.{needs}
 use native.Mathlib.Omega.{arith}
 use mathlib.Core.Path.{ap₂, _∙_}
 use Rattle.scheme.specs.Totals.{totalsBytes}
-use Rattle.changes.proofs.WorkLaws.{blocks-after}
+use Rattle.changes.proofs.BlockChangeLaws.{blocks-after}
 use Rattle.changes.proofs.reseal_for.Statement.{statement}
 use Rattle.changes.proofs.reseal_for.Tie as tie
 
-work-of-requires : tie.Need-work-of-requires
-work-of-requires c κs = search needs
+changes-of-requires : tie.Need-changes-of-requires
+changes-of-requires c κs = search needs
 
 reseal-as-requires : tie.Need-reseal-as-requires
 reseal-as-requires c κs = search needs
@@ -21,8 +21,8 @@ blocks-after-requires c κs =
     let formed = c .before .before .before .before .before .before .before .before in
     let start = formed .before .before .before .before .before .before in
     let a = start .args in
-    let work = formed .work-of in
-    omega (arith, start .pre .1 .few, blocks-after (a .c) (a .kind) (a .m) (a .old .now) (a .mark .now) (a .new .now) (work .result) (work .ensures) (start .pre .1) .1)
+    let changes = formed .changes-of in
+    omega (arith, start .pre .1 .few, blocks-after (a .c) (a .kind) (a .m) (a .old .now) (a .mark .now) (a .new .now) (changes .result) (changes .ensures) (start .pre .1) .1)
 
 same-length : tie.Need-same-length
 same-length c = search needs
@@ -36,8 +36,8 @@ returns c =
     let formed = sealed .before .before in
     let start = formed .before .before .before .before .before .before in
     let a = start .args in
-    let work = formed .work-of in (
-      c .blocks-after .ensures ∙ blocks-after (a .c) (a .kind) (a .m) (a .old .now) (a .mark .now) (a .new .now) (work .result) (work .ensures) (start .pre .1) .0,
+    let changes = formed .changes-of in (
+      c .blocks-after .ensures ∙ blocks-after (a .c) (a .kind) (a .m) (a .old .now) (a .mark .now) (a .new .now) (changes .result) (changes .ensures) (start .pre .1) .0,
       (
         sealed .reseal-as .ensures .0,
         λ master k.
@@ -50,7 +50,7 @@ pub reseal-for-spec : {M : Type 1} → statement M
 reseal-for-spec =
     tie.close
     (tie.spec
-    work-of-requires
+    changes-of-requires
     reseal-as-requires
     write-totals-requires
     blocks-after-requires

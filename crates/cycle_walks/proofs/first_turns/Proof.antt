@@ -1,13 +1,13 @@
--- After each walk those so far have taken their first turn, by course-first, and the places of those that go on come first, by places-first.
+-- After each walk those so far have taken their first turn, by walking-first, and the places of those that go on come first, by places-first.
 use borrow.Author.Needs.{needs}
 use native.Mathlib.Omega.{arith}
 use Prim.Native.Nat.{ℕ, _-_, _^_, _≤_, _<_}
 use mathlib.Core.Path.{_≡_, ap, subst, _∙_}
 use lib.ListN.{length, take, length-set}
-use Rattle.cycle_walks.specs.Each.{Below, Course, going}
+use Rattle.cycle_walks.specs.Each.{Below, Walking, going}
 use Rattle.cycle_walks.proofs.EachLaws.{set-more}
 use Rattle.cycle_walks.proofs.PlaceLaws.{one-at-most, places-none, places-first}
-use Rattle.cycle_walks.proofs.CourseLaws.{width, wide, turn-below, course-none, course-first}
+use Rattle.cycle_walks.proofs.WalkingLaws.{width, wide, turn-below, walking-none, walking-first}
 use Rattle.cycle_walks.proofs.first_turns.Statement.{statement}
 use Rattle.cycle_walks.proofs.first_turns.Tie as tie
 
@@ -19,7 +19,7 @@ Inv-loop key table h d n xs ends₀ places₀ left₀ i₀ ends places left i =
     × (length places ≡ length places₀)
     × (take left places ≡ going d ends i 0)
     × Below (4 ^ h) i ends
-    × Course key d i xs ends i
+    × Walking key d i xs ends i
 
 abbrev μ-loop : tie.MeasureT-loop
 μ-loop key table h d n xs ends₀ places₀ left₀ i₀ ends places left i = n - i
@@ -33,7 +33,7 @@ loop-holds c =
       search needs,
       places-none (a .d) (a .places .now) (a .ends .now),
       (λ j h. absurd (omega arith)),
-      course-none (a .key) (a .d) (a .xs .now) (a .ends .now),
+      walking-none (a .key) (a .d) (a .xs .now) (a .ends .now),
     )
 
 mul-unrounds-in : tie.Need-mul-unrounds-in Inv-loop μ-loop
@@ -95,7 +95,7 @@ loop-again c =
       places-first (a .d) (l .places) (l .ends) (l .i) (l .left) (v .result) (c .counted .result) there room (l .inv .4) (c .counted .ensures),
       set-more (λ j u. u < 4 ^ a .h) (l .ends) (l .i) _ there
           (turn-below (a .key) (a .d) (a .h) (s .pre .0 .0) _ _ (wide (a .d) (a .h) _ (s .pre .0 .0) below) (v .ensures)) (l .inv .5),
-      course-first (a .key) (a .d) (a .h) (s .pre .0 .0) (a .xs .now) (l .ends) (l .i) (v .result) there below (v .ensures) (l .inv .6),
+      walking-first (a .key) (a .d) (a .h) (s .pre .0 .0) (a .xs .now) (l .ends) (l .i) (v .result) there below (v .ensures) (l .inv .6),
     )
 
 same-length : tie.Need-same-length Inv-loop μ-loop
@@ -110,7 +110,7 @@ returns c =
     let l = c .before .loop in
     let all : l .i ≡ a .n = omega (arith, l .inv .0, c .loop-test .left) in (
       (omega (arith, l .inv .0, l .inv .1), l .inv .4 ∙ ap (λ (i : ℕ). going (a .d) (l .ends) i 0) all),
-      ((λ j h. l .inv .5 j (omega (arith, all))), subst (λ (i : ℕ). Course (a .key) (a .d) i (a .xs .now) (l .ends) i) all (l .inv .6)),
+      ((λ j h. l .inv .5 j (omega (arith, all))), subst (λ (i : ℕ). Walking (a .key) (a .d) i (a .xs .now) (l .ends) i) all (l .inv .6)),
     )
 
 pub first-turns-spec : {M : Type 1} → statement M

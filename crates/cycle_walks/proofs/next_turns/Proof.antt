@@ -1,5 +1,5 @@
 -- The places of the walks that went on and go on still come first, and behind them those of the walks whose turn is not taken yet (places-next); each
--- turn brings its walk further (course-next).
+-- turn brings its walk further (walking-next).
 use borrow.Author.Needs.{needs}
 use native.Mathlib.Omega.{arith}
 use Prim.Native.Nat.{ℕ, _+_, _-_, _^_, _≤_, _<_}
@@ -7,10 +7,10 @@ use mathlib.Core.Path.{_≡_, sym, ap, subst, _∙_}
 use mathlib.Core.List.{List, _++_, append-nil}
 use lib.ListN.{length, take, getD, length-set}
 use lib.Seq.{slice, slice-empty}
-use Rattle.cycle_walks.specs.Each.{Below, Course, going}
+use Rattle.cycle_walks.specs.Each.{Below, Walking, going}
 use Rattle.cycle_walks.proofs.EachLaws.{set-kept}
 use Rattle.cycle_walks.proofs.PlaceLaws.{place-in, one-at-most, places-next}
-use Rattle.cycle_walks.proofs.CourseLaws.{width, turn-below, course-next}
+use Rattle.cycle_walks.proofs.WalkingLaws.{width, turn-below, walking-next}
 use Rattle.cycle_walks.proofs.next_turns.Statement.{statement}
 use Rattle.cycle_walks.proofs.next_turns.Tie as tie
 
@@ -22,7 +22,7 @@ Inv-loop key table h d n left ends₀ places₀ still₀ at₀ ends places still
     × (length places ≡ length places₀)
     × (take still places ++ slice at left places ≡ going d ends n 0)
     × Below (4 ^ h) n ends
-    × ((xs : List ℕ) (t : ℕ) → Below d n xs → Course key d n xs ends₀ t → Course key d n xs ends (t + at))
+    × ((xs : List ℕ) (t : ℕ) → Below d n xs → Walking key d n xs ends₀ t → Walking key d n xs ends (t + at))
 
 abbrev μ-loop : tie.MeasureT-loop
 μ-loop key table h d n left ends₀ places₀ still₀ at₀ ends places still at = left - at
@@ -46,7 +46,7 @@ loop-holds c =
       search needs,
       s .pre .1 .3,
       s .pre .1 .2,
-      (λ xs t b k. let z : t ≡ t + 0 = omega arith in subst (Course (s .args .key) (s .args .d) (s .args .n) xs (s .args .ends .now)) z k),
+      (λ xs t b k. let z : t ≡ t + 0 = omega arith in subst (Walking (s .args .key) (s .args .d) (s .args .n) xs (s .args .ends .now)) z k),
     )
 
 mul-i : tie.Need-mul-i Inv-loop μ-loop
@@ -120,8 +120,8 @@ loop-again c =
           (turn-below (a .key) (a .d) (a .h) (s .pre .0 .0) _ _ (l .inv .5 i (next back4 .0)) (v .ensures)) (a .n) (l .inv .5),
       λ xs t b k.
           let z : t + l .at + 1 ≡ t + (l .at + 1) = omega arith in
-          subst (Course (a .key) (a .d) (a .n) xs _) z
-          (course-next (a .key) (a .d) (a .h) (s .pre .0 .0) xs (l .ends) (a .n) i (v .result) (t + l .at) (next back4 .0) there b (next back4 .1) (v .ensures) (l .inv .6 xs t b k)),
+          subst (Walking (a .key) (a .d) (a .n) xs _) z
+          (walking-next (a .key) (a .d) (a .h) (s .pre .0 .0) xs (l .ends) (a .n) i (v .result) (t + l .at) (next back4 .0) there b (next back4 .1) (v .ensures) (l .inv .6 xs t b k)),
     )
 
 same-length : tie.Need-same-length Inv-loop μ-loop
@@ -141,7 +141,7 @@ returns c =
         sym (append-nil (take (l .still) (l .places))) ∙ ap (λ (t : List ℕ). take (l .still) (l .places) ++ t) (sym (none ∙ slice-empty (a .left) (l .places))) ∙ l .inv .4,
         l .inv .5,
       ),
-      λ xs t b k. subst (λ (m : ℕ). Course (a .key) (a .d) (a .n) xs (l .ends) (t + m)) all (l .inv .6 xs t b k),
+      λ xs t b k. subst (λ (m : ℕ). Walking (a .key) (a .d) (a .n) xs (l .ends) (t + m)) all (l .inv .6 xs t b k),
     )
 
 pub next-turns-spec : {M : Type 1} → statement M

@@ -7,7 +7,7 @@ use lib.ListN.{length, getD, length-set}
 use Rattle.permutation.specs.Permutation.{backward}
 use Rattle.cycle_walks.specs.Each.{Backed, turnsOf}
 use Rattle.cycle_walks.proofs.EachLaws.{set-more}
-use Rattle.cycle_walks.proofs.CourseLaws.{turns-none, turns-more, turns-most}
+use Rattle.cycle_walks.proofs.WalkingLaws.{turns-none, turns-more, turns-most}
 use Rattle.cycle_walks.proofs.one_by_one.Statement.{statement}
 use Rattle.cycle_walks.proofs.one_by_one.Tie as tie
 

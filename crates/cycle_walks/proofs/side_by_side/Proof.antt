@@ -1,4 +1,4 @@
--- Turn after turn the walks come further, by what first_turns and next_turns ensure; where none goes on all have come home (course-end). The measure is
+-- Turn after turn the walks come further, by what first_turns and next_turns ensure; where none goes on all have come home (walking-end). The measure is
 -- how many turns are ahead.
 use borrow.Author.Needs.{needs}
 use native.Mathlib.Omega.{arith}
@@ -6,8 +6,8 @@ use Prim.Native.Nat.{ℕ, _^_, _≤_}
 use mathlib.Core.Path.{_≡_, refl, sym, ap, subst, _∙_}
 use lib.ListN.{length, take}
 use Rattle.permutation.specs.Table.{Whole}
-use Rattle.cycle_walks.specs.Each.{Below, Course, aheadOf, going}
-use Rattle.cycle_walks.proofs.CourseLaws.{turns-most, course-end}
+use Rattle.cycle_walks.specs.Each.{Below, Walking, aheadOf, going}
+use Rattle.cycle_walks.proofs.WalkingLaws.{turns-most, walking-end}
 use Rattle.cycle_walks.proofs.side_by_side.Statement.{statement}
 use Rattle.cycle_walks.proofs.side_by_side.Tie as tie
 
@@ -18,7 +18,7 @@ Inv-loop key table d n xs ends₀ h places₀ left₀ turns₀ ends places left 
     × (length places ≡ 256)
     × (take left places ≡ going d ends n 0)
     × Below (4 ^ h) n ends
-    × Course key d n xs ends turns
+    × Walking key d n xs ends turns
 
 abbrev μ-loop : tie.MeasureT-loop
 μ-loop key table d n xs ends₀ h places₀ left₀ turns₀ ends places left turns = aheadOf key d n ends
@@ -99,7 +99,7 @@ returns c =
     let s = c .before .before .before .before .before .before .before .before .before .before .before .before in
     let a = s .args in
     let none : l .left ≡ 0 = omega (arith, c .loop-test .left) in
-    course-end (a .key) (a .d) (a .n) (l .turns) (a .xs .now) (l .ends) (s .pre .0 .4) (sym (l .inv .3) ∙ ap (λ (k : ℕ). take k (l .places)) none) (l .inv .5)
+    walking-end (a .key) (a .d) (a .n) (l .turns) (a .xs .now) (l .ends) (s .pre .0 .4) (sym (l .inv .3) ∙ ap (λ (k : ℕ). take k (l .places)) none) (l .inv .5)
 
 pub side-by-side-spec : {M : Type 1} → statement M
 side-by-side-spec =

@@ -5,7 +5,7 @@ use Prim.Native.Nat.{ℕ, _+_, _^_, _≤_, _<_}
 use lib.ListN.{getD}
 use Rattle.permutation.proofs.HalfLaws.{four-are}
 use Rattle.cycle_walks.proofs.PlaceLaws.{one-at-most}
-use Rattle.cycle_walks.proofs.CourseLaws.{width}
+use Rattle.cycle_walks.proofs.WalkingLaws.{width}
 use Rattle.cycle_walks.proofs.PassLaws.{reached-below, passed-four}
 use Rattle.cycle_walks.proofs.turn_four.Statement.{statement}
 use Rattle.cycle_walks.proofs.turn_four.Tie as tie

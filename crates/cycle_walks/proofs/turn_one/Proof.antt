@@ -2,7 +2,7 @@
 use borrow.Author.Needs.{needs}
 use native.Mathlib.Omega.{arith}
 use mathlib.Core.Path.{refl}
-use Rattle.cycle_walks.proofs.CourseLaws.{width}
+use Rattle.cycle_walks.proofs.WalkingLaws.{width}
 use Rattle.cycle_walks.proofs.PassLaws.{reached-below, passed-more, passed-read}
 use Rattle.cycle_walks.proofs.turn_one.Statement.{statement}
 use Rattle.cycle_walks.proofs.turn_one.Tie as tie

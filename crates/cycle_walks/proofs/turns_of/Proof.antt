@@ -5,7 +5,7 @@ use mathlib.Core.Path.{_≡_, refl, ap, _∙_}
 use lib.ListN.{length}
 use Rattle.cycle_walks.specs.Each.{turnsOf}
 use Rattle.cycle_walks.specs.Along.{Underway}
-use Rattle.cycle_walks.proofs.CourseLaws.{turns-none, turns-most}
+use Rattle.cycle_walks.proofs.WalkingLaws.{turns-none, turns-most}
 use Rattle.cycle_walks.proofs.PassLaws.{reached-row}
 use Rattle.cycle_walks.proofs.turns_of.Statement.{statement}
 use Rattle.cycle_walks.proofs.turns_of.Tie as tie

@@ -28,8 +28,8 @@ mark-of-requires : tie.Need-mark-of-requires
 mark-of-requires c κs =
     let s = c .before .before .before .before .before .before in
     let a = s .args in
-    let seat = s .pre .2 in
-    (seat .lone, subst (λ (e : ℕ). e * a .b .step + a .b .mark ≤ length (a .marks .now)) (sym (c .place-of .ensures .0)) (seat .told))
+    let located = s .pre .2 in
+    (located .lone, subst (λ (e : ℕ). e * a .b .step + a .b .mark ≤ length (a .marks .now)) (sym (c .place-of .ensures .0)) (located .told))
 
 head-of-requires : tie.Need-head-of-requires
 head-of-requires c κs = search needs

@@ -7,10 +7,10 @@ use lib.ListN.{length}
 use Rattle.octets.specs.Octets.{xors}
 use Rattle.scheme.specs.Tokens.{columnsOf, rowFrom}
 use Rattle.standard.specs.Standard.{standard}
-use Rattle.hash_queue.specs.Waiting.{Sound, held}
+use Rattle.hash_queue.specs.Waiting.{Sound, flushed}
 use Rattle.hash_queue.proofs.WaitingLaws.{length-held}
 use Rattle.digests.specs.Layout.{behind, contents}
-use Rattle.digests.proofs.BlockLaws.{seated}
+use Rattle.digests.proofs.BlockLaws.{located}
 use Rattle.digests.proofs.TurnLaws.{row-none, column-turn, row-done}
 use Rattle.digests.proofs.add_row.Statement.{statement}
 use Rattle.digests.proofs.add_row.Tie as tie
@@ -21,7 +21,7 @@ Inv-loop f c b before row j oldest blocks marks pad p₀ at₀ sum₀ q₀ p at 
     × (q ≤ columnsOf (b .rows) (before + b .count) (row .0))
     × Sound sum f blocks at
     × (length p ≡ 3072)
-    × (held sum f blocks at p ≡ xors (held sum₀ f blocks at₀ p₀) (rowFrom standard c (b .rows) (row .0) (j .0) (behind before (contents b blocks marks)) q))
+    × (flushed sum f blocks at p ≡ xors (flushed sum₀ f blocks at₀ p₀) (rowFrom standard c (b .rows) (row .0) (j .0) (behind before (contents b blocks marks)) q))
 
 abbrev μ-loop : tie.MeasureT-loop
 μ-loop f c b before row j oldest blocks marks pad p₀ at₀ sum₀ q₀ p at sum q = q
@@ -63,7 +63,7 @@ add-block-requires c κs =
     let there : l .q - 1 < columnsOf (a .b .rows) (a .before + a .b .count) (a .row .0) = omega (arith, turn .loop-test .taken, l .inv .1) in (
       l .inv .2,
       p .1,
-      seated (a .b) (a .before) (a .row .0) _ (a .blocks .now) (a .marks .now) (p .2) (s .pre .1 .0) (p .3) older there,
+      located (a .b) (a .before) (a .row .0) _ (a .blocks .now) (a .marks .now) (p .2) (s .pre .1 .0) (p .3) older there,
       p .4,
       p .5,
       l .inv .3,

@@ -1,4 +1,4 @@
--- With no blocks before, what is made of nothing is the digest, by worked-all, and its hashes are the digest's, by hashes-all. The table is empty or has all
+-- With no blocks before, what is made of nothing is the digest, by after-all, and its hashes are the digest's, by hashes-all. The table is empty or has all
 -- values of the round function.
 use borrow.Author.Needs.{needs}
 use native.Mathlib.Omega.{arith}
@@ -6,7 +6,7 @@ use mathlib.Core.Path.{sym, ap, _∙_}
 use lib.Seq.{length-take-le}
 use Rattle.permutation.specs.Rounds.{half}
 use Rattle.scheme.specs.Totals.{digestHashes}
-use Rattle.scheme.proofs.NewerLaws.{worked-all, hashes-all}
+use Rattle.scheme.proofs.laws.NewerLaws.{after-all, hashes-all}
 use Rattle.standard.specs.Standard.{standard}
 use Rattle.digests.specs.Layout.{contents}
 use Rattle.digests.proofs.ContentLaws.{contents-long}
@@ -57,7 +57,7 @@ returns c =
     let lies = s .pre .0 in
     let news = contents b (a .blocks .now) (a .marks .now) in
     let grown = c .before .grown .ensures in (
-      grown .0 ∙ worked-all standard (a .t1) (a .c) (b .rows) (a .positions) (lies .rowed) (lies .few-rows) (s .pre .1) news,
+      grown .0 ∙ after-all standard (a .t1) (a .c) (b .rows) (a .positions) (lies .rowed) (lies .few-rows) (s .pre .1) news,
       (
         grown .1 .0,
         grown .1 .1

@@ -11,10 +11,10 @@ use Rattle.chacha20.specs.ChaCha20.{keyWords}
 use Rattle.permutation.specs.Rounds.{half}
 use Rattle.scheme.specs.Tokens.{columnsOf}
 use Rattle.scheme.specs.Totals.{digestTurns, digestHashes}
-use Rattle.scheme.proofs.TotalLaws.{digest-turns-most, digest-hashes-most}
-use Rattle.scheme.proofs.NewerLaws.{newer}
+use Rattle.scheme.proofs.laws.TotalLaws.{digest-turns-most, digest-hashes-most}
+use Rattle.scheme.proofs.laws.NewerLaws.{newer}
 use Rattle.standard.specs.Standard.{standard}
-use Rattle.hash_queue.specs.Waiting.{Sound, held}
+use Rattle.hash_queue.specs.Waiting.{Sound, flushed}
 use Rattle.hash_queue.proofs.WaitingLaws.{held-all, sound-none}
 use Rattle.digests.specs.Layout.{Row}
 use Rattle.digests.proofs.BlockLaws.{row-up}
@@ -28,7 +28,7 @@ Inv-loop c table b before positions blocks marks f pad p₀ words at₀ sum₀ t
     × Sound sum f blocks at
     × (length p ≡ 3072)
     × ((k : List ℕ) → words ≡ keyWords k
-    → (held sum f blocks at p ≡ xors (sum₀ .x) (newer standard k c (b .rows) drawn before (all b before blocks marks)))
+    → (flushed sum f blocks at p ≡ xors (sum₀ .x) (newer standard k c (b .rows) drawn before (all b before blocks marks)))
     × (turns ≡ digestTurns standard k (b .rows) drawn)
     × (hashes + digestHashes standard k (b .rows) drawn before ≡ digestHashes standard k (b .rows) drawn (before + b .count)))
 

@@ -9,10 +9,10 @@ use Rattle.erasure.proofs.add_blocks.Statement.{statement}
 use Rattle.erasure.proofs.add_blocks.Tie as tie
 
 abbrev Inv-loop : tie.InvT-loop
-Inv-loop up down size ns ws blocks acc₀ j₀ acc j = (j ≤ length ns) × (length acc ≡ size) × Going size j ns ws blocks acc₀ acc
+Inv-loop exp log size ns ws blocks acc₀ j₀ acc j = (j ≤ length ns) × (length acc ≡ size) × Going size j ns ws blocks acc₀ acc
 
 abbrev μ-loop : tie.MeasureT-loop
-μ-loop up down size ns ws blocks acc₀ j₀ acc j = length ns - j
+μ-loop exp log size ns ws blocks acc₀ j₀ acc j = length ns - j
 
 loop-holds : tie.Need-loop-holds Inv-loop μ-loop
 loop-holds c = (search needs, search needs, going-start _ _ _ _ _)

@@ -9,11 +9,11 @@ use Rattle.erasure.proofs.add_two.Statement.{statement}
 use Rattle.erasure.proofs.add_two.Tie as tie
 
 abbrev Inv-loop : tie.InvT-loop
-Inv-loop up down size ns vs ws blocks one₀ two₀ j₀ one two j =
+Inv-loop exp log size ns vs ws blocks one₀ two₀ j₀ one two j =
     (j ≤ length ns) × (length one ≡ size) × (length two ≡ size) × Going size j ns vs blocks one₀ one × Going size j ns ws blocks two₀ two
 
 abbrev μ-loop : tie.MeasureT-loop
-μ-loop up down size ns vs ws blocks one₀ two₀ j₀ one two j = length ns - j
+μ-loop exp log size ns vs ws blocks one₀ two₀ j₀ one two j = length ns - j
 
 loop-holds : tie.Need-loop-holds Inv-loop μ-loop
 loop-holds c = (search needs, search needs, search needs, going-start _ _ _ _ _, going-start _ _ _ _ _)

@@ -12,11 +12,11 @@ use Rattle.erasure.proofs.encode_blocks.Statement.{statement}
 use Rattle.erasure.proofs.encode_blocks.Tie as tie
 
 abbrev Inv-loop : tie.InvT-loop
-Inv-loop up down size k p qs vs₀ ws₀ spare₀ blocks parity₀ x₀ at₀ vs ws spare parity x at =
+Inv-loop exp log size k p qs vs₀ ws₀ spare₀ blocks parity₀ x₀ at₀ vs ws spare parity x at =
     (x ≤ p) × (at ≡ x * size) × (length parity ≡ p * size) × (length vs ≡ k) × (length ws ≡ k) × (length spare ≡ size) × Filled at (ParityAt size k k blocks) parity
 
 abbrev μ-loop : tie.MeasureT-loop
-μ-loop up down size k p qs vs₀ ws₀ spare₀ blocks parity₀ x₀ at₀ vs ws spare parity x at = p - x
+μ-loop exp log size k p qs vs₀ ws₀ spare₀ blocks parity₀ x₀ at₀ vs ws spare parity x at = p - x
 
 loop-holds : tie.Need-loop-holds Inv-loop μ-loop
 loop-holds c = (search needs, search needs, search needs, search needs, search needs, search needs, λ i h. absurd (omega arith))

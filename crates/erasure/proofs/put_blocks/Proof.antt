@@ -12,10 +12,10 @@ use Rattle.erasure.proofs.put_blocks.Statement.{statement}
 use Rattle.erasure.proofs.put_blocks.Tie as tie
 
 abbrev Inv-loop : tie.InvT-loop
-Inv-loop up down size k lost us vs qs cs₀ ws₀ blocks group₀ n₀ at₀ i₀ cs ws group n at i = (n ≤ k) × (at ≡ n * size) × (i ≡ length (lostData lost n)) × (length cs ≡ length us) × (length ws ≡ length qs) × (length group ≡ k * size) × Filled at (DataAt size lost us vs qs blocks) group
+Inv-loop exp log size k lost us vs qs cs₀ ws₀ blocks group₀ n₀ at₀ i₀ cs ws group n at i = (n ≤ k) × (at ≡ n * size) × (i ≡ length (lostData lost n)) × (length cs ≡ length us) × (length ws ≡ length qs) × (length group ≡ k * size) × Filled at (DataAt size lost us vs qs blocks) group
 
 abbrev μ-loop : tie.MeasureT-loop
-μ-loop up down size k lost us vs qs cs₀ ws₀ blocks group₀ n₀ at₀ i₀ cs ws group n at i = k - n
+μ-loop exp log size k lost us vs qs cs₀ ws₀ blocks group₀ n₀ at₀ i₀ cs ws group n at i = k - n
 
 loop-holds : tie.Need-loop-holds Inv-loop μ-loop
 unfolding chosen

@@ -11,10 +11,10 @@ use Rattle.gf256.proofs.mix.Statement.{statement}
 use Rattle.gf256.proofs.mix.Tie as tie
 
 abbrev Inv-loop : tie.InvT-loop
-Inv-loop up down w block acc₀ m i₀ acc i = (i ≤ length block) × (acc ≡ zipTo (mixedOne w) i block acc₀) × (length acc ≡ length block)
+Inv-loop exp log w block acc₀ m i₀ acc i = (i ≤ length block) × (acc ≡ zipTo (mixedOne w) i block acc₀) × (length acc ≡ length block)
 
 abbrev μ-loop : tie.MeasureT-loop
-μ-loop up down w block acc₀ m i₀ acc i = length block - i
+μ-loop exp log w block acc₀ m i₀ acc i = length block - i
 
 doubles-of-requires : tie.Need-doubles-of-requires Inv-loop μ-loop
 doubles-of-requires c κs = search needs

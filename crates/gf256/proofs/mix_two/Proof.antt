@@ -11,11 +11,11 @@ use Rattle.gf256.proofs.mix_two.Statement.{statement}
 use Rattle.gf256.proofs.mix_two.Tie as tie
 
 abbrev Inv-loop : tie.InvT-loop
-Inv-loop up down v w block one₀ two₀ m n i₀ one two i =
+Inv-loop exp log v w block one₀ two₀ m n i₀ one two i =
     (i ≤ length block) × (one ≡ zipTo (mixedOne v) i block one₀) × (length one ≡ length block) × (two ≡ zipTo (mixedOne w) i block two₀) × (length two ≡ length block)
 
 abbrev μ-loop : tie.MeasureT-loop
-μ-loop up down v w block one₀ two₀ m n i₀ one two i = length block - i
+μ-loop exp log v w block one₀ two₀ m n i₀ one two i = length block - i
 
 doubles-of-requires : tie.Need-doubles-of-requires Inv-loop μ-loop
 doubles-of-requires c κs = search needs

@@ -1,7 +1,7 @@
 -- No message waits, by held-all, or those that wait are hashed.
 use borrow.Author.Needs.{needs}
 use native.Mathlib.Omega.{arith}
-use Rattle.hash_queue.specs.Waiting.{held}
+use Rattle.hash_queue.specs.Waiting.{flushed}
 use Rattle.hash_queue.proofs.WaitingLaws.{held-all}
 use Rattle.hash_queue.proofs.settled.Statement.{statement}
 use Rattle.hash_queue.proofs.settled.Tie as tie
@@ -17,7 +17,7 @@ with-hashes-requires c κs =
     (omega (arith, c .if1 .left), search needs, p .1, p .2, p .0 .inside (p .0 .some (omega (arith, c .if1 .left))))
 
 returns-2 : tie.Need-returns-2
-unfolding held
+unfolding flushed
 returns-2 c = search needs
 
 pub settled-spec : {M : Type 1} → statement M

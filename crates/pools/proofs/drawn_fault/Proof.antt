@@ -1,8 +1,8 @@
--- The ladder from 3 on, from its tests, by drawn-limits and the laws beside it.
+-- The list of checks from 3 on, from its tests, by drawn-limits and the laws beside it.
 use Rattle.pools.proofs.PoolLaws.{drawn-limits, drawn-number, drawn-twice, drawn-closed, drawn-none}
 use Rattle.scheme.specs.Pools as P
 use Rattle.scheme.specs.Pools.{cut, readAll, every, inLimits, isOpen}
-use Rattle.scheme.specs.Ladder.{within}
+use Rattle.scheme.specs.Checks.{within}
 use lib.ListN.{length}
 use borrow.Author.Tests.{not-true, not-false}
 use mathlib.Core.Path.{sym, ap, _∙_}

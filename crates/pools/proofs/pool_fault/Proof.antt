@@ -1,4 +1,4 @@
--- The ladder from its tests, by refused, other-master, other-head and drawn.
+-- The list of checks from its tests, by refused, other-master, other-head and drawn.
 use Rattle.pools.proofs.PoolLaws.{refused, other-master, other-head, drawn}
 use lib.ListN.{length}
 use borrow.Author.Tests.{ne-eqb, not-true, not-false}

@@ -56,7 +56,7 @@ returns c =
     let s = keyed .before .before .before .before in
     let a = s .args in (
       (λ _. keyed .key-of .ensures, omega (arith, counted .hashes-of .ensures .1, s .pre .1 .1), added .add-contents .ensures .0),
-      λ k x place before. hashed-drawn (a .work) (a .new .now) k (tokenKey (a .z) (a .i .0)) (a .e) (a .seat) _ _ _ _ _ x _ _ _
+      λ k x place before. hashed-drawn (a .changes) (a .new .now) k (tokenKey (a .z) (a .i .0)) (a .e) (a .j0) _ _ _ _ _ x _ _ _
           (s .pre .0 .2)
           (keyed .key-of .ensures)
           (numbered .number-of .ensures .0)

@@ -6,26 +6,26 @@ use mathlib.Core.Path.{_≡_, sym, ap, _∙_}
 use mathlib.Core.List.{List}
 use lib.ListN.{getD}
 use Rattle.tokens.specs.Keyed.{tokenKey}
-use Rattle.hash_queue.specs.Waiting.{held, Sound}
-use Rattle.block_changes.specs.Items.{Fits}
+use Rattle.hash_queue.specs.Waiting.{flushed, Sound}
+use Rattle.block_changes.specs.BlockChanges.{Fits}
 use Rattle.token_updates.specs.Runs.{Hashed, Made, Placed}
 use Rattle.token_updates.proofs.ItemLaws.{hashed-at, hashed-undrawn}
 use Rattle.token_updates.proofs.add_items.Statement.{statement}
 use Rattle.token_updates.proofs.add_items.Tie as tie
 
 abbrev Inv-loop : tie.InvT-loop
-Inv-loop z i work from n ends f new pad p₀ at₀ going₀ e₀ p at going e =
+Inv-loop z i changes from n ends f new pad p₀ at₀ going₀ e₀ p at going e =
     (e ≤ n)
-    × (e < n → getD ends e 0 < work .positions)
+    × (e < n → getD ends e 0 < changes .positions)
     × Made z (i .0) going
     × (going .hashes ≤ (from + e) * 2)
-    × Fits f (work .version) (work .size) pad p
+    × Fits f (changes .version) (changes .size) pad p
     × Sound (going .sum) f new at
-    × ((k x : List ℕ) → Placed k work new from n ends → Hashed k (tokenKey z (i .0)) work new from x (held (going₀ .sum) f new at₀ p₀) (going₀ .hashes)
-    → Hashed k (tokenKey z (i .0)) work new (from + e) x (held (going .sum) f new at p) (going .hashes))
+    × ((k x : List ℕ) → Placed k changes new from n ends → Hashed k (tokenKey z (i .0)) changes new from x (flushed (going₀ .sum) f new at₀ p₀) (going₀ .hashes)
+    → Hashed k (tokenKey z (i .0)) changes new (from + e) x (flushed (going .sum) f new at p) (going .hashes))
 
 abbrev μ-loop : tie.MeasureT-loop
-μ-loop z i work from n ends f new pad p₀ at₀ going₀ e₀ p at going e = n - e
+μ-loop z i changes from n ends f new pad p₀ at₀ going₀ e₀ p at going e = n - e
 
 next-drawn-requires : tie.Need-next-drawn-requires Inv-loop μ-loop
 next-drawn-requires c κs = (omega arith, c .before .before .before .before .pre .0 .2)
@@ -43,7 +43,7 @@ loop-holds c =
       s .pre .1 .2,
       s .pre .1 .3,
       λ k x placed before.
-          hashed-undrawn (a .work) (a .new .now) k (tokenKey (a .z) (a .i .0)) (a .from) 0 _ x _ (a .ends .now) _ (next .0) (λ j h. placed j (omega (arith, next .1))) (next .2)
+          hashed-undrawn (a .changes) (a .new .now) k (tokenKey (a .z) (a .i .0)) (a .from) 0 _ x _ (a .ends .now) _ (next .0) (λ j h. placed j (omega (arith, next .1))) (next .2)
           (hashed-at (a .from + 0) z before),
     )
 
@@ -100,7 +100,7 @@ loop-again c =
       record { cut = l .inv .4 .cut; padded = l .inv .4 .padded; whole = omega (arith, added .kept, l .inv .4 .whole) },
       added .ensures .0 .2,
       λ k x placed before.
-          hashed-undrawn (a .work) (a .new .now) k (tokenKey (a .z) (a .i .0)) (a .from) (l .e + 1) _ x _ (a .ends .now) _ (next .0) (λ j h. placed j (omega (arith, next .1))) (next .2)
+          hashed-undrawn (a .changes) (a .new .now) k (tokenKey (a .z) (a .i .0)) (a .from) (l .e + 1) _ x _ (a .ends .now) _ (next .0) (λ j h. placed j (omega (arith, next .1))) (next .2)
           (hashed-at (a .from + (l .e + 1)) up
           (added .ensures .1 k x (placed (l .e) (back7 .loop-test .taken)) (l .inv .6 k x placed before))),
     )

@@ -47,7 +47,7 @@ several-in-requires c κs =
     let measured = padded .before .before in
     let s = measured .before .before .before .before .before .before in
     let h = measured .head-bytes .ensures .0 in
-    let B = s .args .work .size in (
+    let B = s .args .changes .size in (
       s .pre .0,
       s .pre .1,
       record {

@@ -6,22 +6,22 @@ use mathlib.Core.Path.{_≡_, sym, ap, _∙_}
 use lib.ListN.{length, length-set}
 use Rattle.scheme.specs.Tokens.{rowOf}
 use Rattle.cycle_walks.proofs.EachLaws.{set-more}
-use Rattle.block_changes.specs.Items.{numberAt}
+use Rattle.block_changes.specs.BlockChanges.{numberAt}
 use Rattle.token_updates.specs.Runs.{Rows}
 use Rattle.token_updates.proofs.ItemLaws.{row-behind, row-below, number-next}
 use Rattle.token_updates.proofs.lay_added.Statement.{statement}
 use Rattle.token_updates.proofs.lay_added.Tie as tie
 
 abbrev Inv-loop : tie.InvT-loop
-Inv-loop work new from n starts₀ at₀ e₀ starts at e =
+Inv-loop changes new from n starts₀ at₀ e₀ starts at e =
     (e ≤ n)
     × (length starts ≡ length starts₀)
-    × (at < work .rows)
-    × (at ≡ rowOf (work .rows) (numberAt work new (from + e)) - 1)
-    × Rows work new from e starts
+    × (at < changes .rows)
+    × (at ≡ rowOf (changes .rows) (numberAt changes new (from + e)) - 1)
+    × Rows changes new from e starts
 
 abbrev μ-loop : tie.MeasureT-loop
-μ-loop work new from n starts₀ at₀ e₀ starts at e = n - e
+μ-loop changes new from n starts₀ at₀ e₀ starts at e = n - e
 
 number-of-requires : tie.Need-number-of-requires Inv-loop μ-loop
 number-of-requires c κs =
@@ -42,7 +42,7 @@ loop-holds c =
       omega arith,
       search needs,
       omega (arith, row .1, row .2),
-      ap (λ (m : ℕ). m - 1) (row .0 ∙ ap (rowOf (a .work .rows)) (c .before .before .number-of .ensures .0 ∙ ap (numberAt (a .work) (a .new .now)) none)),
+      ap (λ (m : ℕ). m - 1) (row .0 ∙ ap (rowOf (a .changes .rows)) (c .before .before .number-of .ensures .0 ∙ ap (numberAt (a .changes) (a .new .now)) none)),
       λ j h. absurd (omega arith),
     )
 
@@ -71,15 +71,15 @@ loop-again c =
     let a = s .args in
     let l = c .before .before .loop in
     let more = c .before .loop-test .taken in
-    let next = number-next (a .work) (a .new .now) (a .from + l .e) (s .pre .1) in
+    let next = number-next (a .changes) (a .new .now) (a .from + l .e) (s .pre .1) in
     let up : a .from + l .e + 1 ≡ a .from + (l .e + 1) = omega arith in
-    let some : 1 ≤ numberAt (a .work) (a .new .now) (a .from + l .e) = omega (arith, next .0, s .pre .0 .added (s .pre .1) .from-one) in
-    let behind = row-behind (a .work .rows) (numberAt (a .work) (a .new .now) (a .from + l .e)) (l .at) _ some (l .inv .3) (c .next-row .ensures) in (
+    let some : 1 ≤ numberAt (a .changes) (a .new .now) (a .from + l .e) = omega (arith, next .0, s .pre .0 .added (s .pre .1) .from-one) in
+    let behind = row-behind (a .changes .rows) (numberAt (a .changes) (a .new .now) (a .from + l .e)) (l .at) _ some (l .inv .3) (c .next-row .ensures) in (
       omega (arith, more),
       length-set (l .starts) (l .e) _ ∙ l .inv .1,
-      row-below (a .work .rows) (numberAt (a .work) (a .new .now) (a .from + l .e) + 1) _ (s .pre .0 .rowed) behind,
-      behind ∙ ap (λ (m : ℕ). rowOf (a .work .rows) m - 1) (sym (next .1) ∙ ap (numberAt (a .work) (a .new .now)) up),
-      set-more (λ j v. v ≡ rowOf (a .work .rows) (numberAt (a .work) (a .new .now) (a .from + j)) - 1) (l .starts) (l .e) _
+      row-below (a .changes .rows) (numberAt (a .changes) (a .new .now) (a .from + l .e) + 1) _ (s .pre .0 .rowed) behind,
+      behind ∙ ap (λ (m : ℕ). rowOf (a .changes .rows) m - 1) (sym (next .1) ∙ ap (numberAt (a .changes) (a .new .now)) up),
+      set-more (λ j v. v ≡ rowOf (a .changes .rows) (numberAt (a .changes) (a .new .now) (a .from + j)) - 1) (l .starts) (l .e) _
           (omega (arith, l .inv .1, more, s .pre .4)) (l .inv .3) (l .inv .4),
     )
 

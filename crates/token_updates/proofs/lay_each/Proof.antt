@@ -6,18 +6,18 @@ use mathlib.Core.Path.{_≡_, ap, _∙_}
 use lib.ListN.{length, getD}
 use Rattle.cycle_walks.proofs.EachLaws.{set-more}
 use Rattle.scheme.specs.Tokens.{rowOf}
-use Rattle.block_changes.specs.Items.{numberAt}
+use Rattle.block_changes.specs.BlockChanges.{numberAt}
 use Rattle.token_updates.proofs.lay_each.Statement.{statement}
 use Rattle.token_updates.proofs.lay_each.Tie as tie
 
 abbrev Inv-loop : tie.InvT-loop
-Inv-loop work new from n starts₀ e₀ starts e =
+Inv-loop changes new from n starts₀ e₀ starts e =
     (e ≤ n)
     × (length starts ≡ length starts₀)
-    × ((j : ℕ) → j < e → getD starts j 0 ≡ rowOf (work .rows) (numberAt work new (from + j)) - 1)
+    × ((j : ℕ) → j < e → getD starts j 0 ≡ rowOf (changes .rows) (numberAt changes new (from + j)) - 1)
 
 abbrev μ-loop : tie.MeasureT-loop
-μ-loop work new from n starts₀ e₀ starts e = n - e
+μ-loop changes new from n starts₀ e₀ starts e = n - e
 
 loop-holds : tie.Need-loop-holds Inv-loop μ-loop
 loop-holds c = (omega arith, search needs, λ j h. absurd (omega arith))
@@ -54,8 +54,8 @@ loop-again c =
     let l = c .before .before .before .before .loop in (
       omega arith,
       search needs,
-      set-more (λ j v. v ≡ rowOf (a .work .rows) (numberAt (a .work) (a .new .now) (a .from + j)) - 1) (l .starts) (l .e) _ (omega arith)
-          (ap (λ (m : ℕ). m - 1) (c .before .row-of .ensures .0 ∙ ap (rowOf (a .work .rows)) (c .before .before .number-of .ensures .0)))
+      set-more (λ j v. v ≡ rowOf (a .changes .rows) (numberAt (a .changes) (a .new .now) (a .from + j)) - 1) (l .starts) (l .e) _ (omega arith)
+          (ap (λ (m : ℕ). m - 1) (c .before .row-of .ensures .0 ∙ ap (rowOf (a .changes .rows)) (c .before .before .number-of .ensures .0)))
           (l .inv .2),
     )
 

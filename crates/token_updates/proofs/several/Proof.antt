@@ -44,7 +44,7 @@ by-positions-requires c κs =
     let s = worded .before .before .before .before .before .before .before .before in (
       s .pre .0,
       chosen .before .dense .ensures (chosen .if1 .taken),
-      tabled-under _ _ (half (s .args .work .rows)) _ (worded .key-words .ensures) (tabled .tabulated .ensures .2),
+      tabled-under _ _ (half (s .args .changes .rows)) _ (worded .key-words .ensures) (tabled .tabulated .ensures .2),
       s .pre .1 .whole,
     )
 
@@ -59,7 +59,7 @@ returns c =
     let done = c .before .before in
     let keyed = c .before .before .before .before .before .before .before .before .before .before .before .before .before in
     let a = keyed .before .before .before .before .before .before .args in
-    subst (λ (k : List ℕ). Done k (tokenKey (a .z) (a .i .0)) (a .work .rows) (a .work .positions) (firsts (a .work) (a .new .now) (a .work .count)) (a .x) (done .by-positions .result))
+    subst (λ (k : List ℕ). Done k (tokenKey (a .z) (a .i .0)) (a .changes .rows) (a .changes .positions) (firsts (a .changes) (a .new .now) (a .changes .count)) (a .x) (done .by-positions .result))
     (keyed .token-key .ensures)
     (done .by-positions .ensures)
 

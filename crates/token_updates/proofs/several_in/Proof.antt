@@ -1,4 +1,4 @@
--- After each stretch the sum stands for the changes so far, under any key with these words, and their work is counted, by what walk_some and add_items
+-- After each stretch the sum stands for the changes so far, under any key with these words, and their totals are counted, by what walk_some and add_items
 -- ensure.
 use borrow.Author.Needs.{needs}
 use native.Mathlib.Omega.{arith}
@@ -8,33 +8,33 @@ use mathlib.Core.List.{List}
 use mathlib.Core.Bool.{false≢true}
 use lib.ListN.{length, replicate}
 use Rattle.chacha20.specs.ChaCha20.{keyWords}
-use Rattle.scheme.specs.Totals.{workTurns}
+use Rattle.scheme.specs.Totals.{tokenTurns}
 use Rattle.standard.specs.Standard.{standard}
 use Rattle.tokens.specs.Keyed.{tokenKey}
-use Rattle.hash_queue.specs.Waiting.{held, Sound}
+use Rattle.hash_queue.specs.Waiting.{flushed, Sound}
 use Rattle.hash_queue.proofs.WaitingLaws.{held-all, sound-none}
-use Rattle.block_changes.specs.Items.{Fits}
+use Rattle.block_changes.specs.BlockChanges.{Fits}
 use Rattle.token_updates.specs.Runs.{firsts, Hashed, Made}
 use Rattle.token_updates.proofs.ItemLaws.{walked-none, hashed-none, hashed-at, done-all}
 use Rattle.token_updates.proofs.several_in.Statement.{statement}
 use Rattle.token_updates.proofs.several_in.Tie as tie
 
 abbrev Inv-loop : tie.InvT-loop
-Inv-loop words table z i work f new pad starts₀ ends₀ p₀ at₀ run₀ turns₀ left₀ starts ends p at run turns left =
-    (left ≤ work .count)
+Inv-loop words table z i changes f new pad starts₀ ends₀ p₀ at₀ run₀ turns₀ left₀ starts ends p at run turns left =
+    (left ≤ changes .count)
     × Made z (i .0) run
-    × (run .hashes ≤ (work .count - left) * 2)
-    × (turns ≤ (work .count - left) * 1048576)
-    × Fits f (work .version) (work .size) pad p
+    × (run .hashes ≤ (changes .count - left) * 2)
+    × (turns ≤ (changes .count - left) * 1048576)
+    × Fits f (changes .version) (changes .size) pad p
     × Sound (run .sum) f new at
     × (length starts ≡ 256)
     × (length ends ≡ 256)
     × ((k : List ℕ) → words ≡ keyWords k
-    → Hashed k (tokenKey z (i .0)) work new (work .count - left) (held (run₀ .sum) f new at₀ p₀) (held (run .sum) f new at p) (run .hashes)
-    × (turns ≡ workTurns standard k (work .rows) (firsts work new (work .count - left))))
+    → Hashed k (tokenKey z (i .0)) changes new (changes .count - left) (flushed (run₀ .sum) f new at₀ p₀) (flushed (run .sum) f new at p) (run .hashes)
+    × (turns ≡ tokenTurns standard k (changes .rows) (firsts changes new (changes .count - left))))
 
 abbrev μ-loop : tie.MeasureT-loop
-μ-loop words table z i work f new pad starts₀ ends₀ p₀ at₀ run₀ turns₀ left₀ starts ends p at run turns left =
+μ-loop words table z i changes f new pad starts₀ ends₀ p₀ at₀ run₀ turns₀ left₀ starts ends p at run turns left =
     left
 
 sum-long : (c : tie.After-start Inv-loop μ-loop) → length (c .start .result .x) ≡ 32
@@ -48,7 +48,7 @@ loop-holds c =
     let s = c .before .before .before .before .before .before .before in
     let a = s .args in
     let sum = c .start .result in
-    let none : 0 ≡ a .work .count - a .work .count = omega arith in (
+    let none : 0 ≡ a .changes .count - a .changes .count = omega arith in (
       omega arith,
       (λ e. absurd (false≢true e)),
       omega arith,
@@ -58,8 +58,8 @@ loop-holds c =
       s .pre .3,
       s .pre .4,
       λ k ew. (
-        hashed-at (a .work .count - a .work .count) none (hashed-none (a .work) (a .new .now) k (tokenKey (a .z) (a .i .0)) (held sum (a .f) (a .new .now) (replicate 16 0) (a .p .now))),
-        walked-none (a .work) (a .new .now) k (a .work .rows) ∙ ap (λ (n : ℕ). workTurns standard k (a .work .rows) (firsts (a .work) (a .new .now) n)) none,
+        hashed-at (a .changes .count - a .changes .count) none (hashed-none (a .changes) (a .new .now) k (tokenKey (a .z) (a .i .0)) (flushed sum (a .f) (a .new .now) (replicate 16 0) (a .p .now))),
+        walked-none (a .changes) (a .new .now) k (a .changes .rows) ∙ ap (λ (n : ℕ). tokenTurns standard k (a .changes .rows) (firsts (a .changes) (a .new .now) n)) none,
       ),
     )
 
@@ -106,7 +106,7 @@ loop-again c =
     let begun = c .before .before .before .before .before .before .before .before .before .before .before .before .before .before .before .before .before in
     let s = begun .before .before .before .before .before .before .before in
     let a = s .args in
-    let up : a .work .count - l .left + n .result ≡ a .work .count - (l .left - n .result) = omega (arith, n .ensures .1, l .inv .0) in (
+    let up : a .changes .count - l .left + n .result ≡ a .changes .count - (l .left - n .result) = omega (arith, n .ensures .1, l .inv .0) in (
       omega (arith, l .inv .0),
       added .ensures .0 .0,
       omega (arith, added .ensures .0 .1, n .ensures .1, l .inv .0),
@@ -118,10 +118,10 @@ loop-again c =
       λ k ew.
           let placed = walked .ensures .1 k ew in
           let before = l .inv .8 k ew in (
-            hashed-at (a .work .count - (l .left - n .result)) up (added .ensures .1 k _ (placed .0) (before .0)),
+            hashed-at (a .changes .count - (l .left - n .result)) up (added .ensures .1 k _ (placed .0) (before .0)),
             ap (λ (t : ℕ). t + walked .result) (before .1)
                 ∙ sym (placed .1)
-                ∙ ap (λ (m : ℕ). workTurns standard k (a .work .rows) (firsts (a .work) (a .new .now) m)) up,
+                ∙ ap (λ (m : ℕ). tokenTurns standard k (a .changes .rows) (firsts (a .changes) (a .new .now) m)) up,
           ),
     )
 
@@ -144,12 +144,12 @@ returns c =
     let l = c .before .before .before .before .before .loop in
     let begun = c .before .before .before .before .before .before in
     let a = begun .before .before .before .before .before .before .before .args in
-    let all : a .work .count - l .left ≡ a .work .count = omega (arith, c .before .before .before .before .loop-test .left) in
-    let first : held (begun .start .result) (a .f) (a .new .now) (replicate 16 0) (a .p .now) ≡ a .x
+    let all : a .changes .count - l .left ≡ a .changes .count = omega (arith, c .before .before .before .before .loop-test .left) in
+    let first : flushed (begun .start .result) (a .f) (a .new .now) (replicate 16 0) (a .p .now) ≡ a .x
     = sym (held-all (a .p .now) (a .f) (a .new .now) (begun .start .result) (replicate 16 0) (sum-long begun) (begun .start .ensures .0)) ∙ begun .start .ensures .1 in
     λ k ew.
     let through = l .inv .8 k ew in
-    done-all (a .work) (a .new .now) k (tokenKey (a .z) (a .i .0)) (a .work .count - l .left) _ (a .x) _ _ _ _ all first (c .settled .ensures) (through .1) (through .0)
+    done-all (a .changes) (a .new .now) k (tokenKey (a .z) (a .i .0)) (a .changes .count - l .left) _ (a .x) _ _ _ _ all first (c .settled .ensures) (through .1) (through .0)
 
 pub several-in-spec : {M : Type 1} → statement M
 several-in-spec =

@@ -3,9 +3,9 @@ use borrow.Author.Needs.{needs}
 use native.Mathlib.Omega.{arith}
 use mathlib.Core.Path.{sym, ap, _∙_}
 use Prim.Native.Nat.{ℕ, _+_}
-use Rattle.scheme.specs.Totals.{workTurns}
+use Rattle.scheme.specs.Totals.{tokenTurns}
 use Rattle.standard.specs.Standard.{standard}
-use Rattle.block_changes.specs.Items.{numberAt}
+use Rattle.block_changes.specs.BlockChanges.{numberAt}
 use Rattle.token_updates.specs.Runs.{firsts}
 use Rattle.token_updates.proofs.ItemLaws.{row-below, seated, walked, turns-few}
 use Rattle.token_updates.proofs.walk_some.Statement.{statement}
@@ -26,7 +26,7 @@ backward-each-requires c κs =
         s .pre .0 .few-rows,
         s .pre .4,
         s .pre .3,
-        λ e h. row-below (a .work .rows) (numberAt (a .work) (a .new .now) (a .from + e)) _ (s .pre .0 .rowed) (laid .lay-rows .ensures e h),
+        λ e h. row-below (a .changes .rows) (numberAt (a .changes) (a .new .now) (a .from + e)) _ (s .pre .0 .rowed) (laid .lay-rows .ensures e h),
       ),
       (omega (arith, laid .lay-rows .kept, s .pre .5, s .pre .3), omega (arith, s .pre .6, s .pre .3)),
     )
@@ -44,12 +44,12 @@ returns c =
     let s = laid .before .before .before .before .before .before in
     let a = s .args in
     let rows = laid .lay-rows .ensures in (
-      turns-few (a .words) (a .work .rows) (a .n) _ (each .0) (s .pre .0 .few-rows)
-          (λ e h. row-below (a .work .rows) (numberAt (a .work) (a .new .now) (a .from + e)) _ (s .pre .0 .rowed) (rows e h)),
+      turns-few (a .words) (a .changes .rows) (a .n) _ (each .0) (s .pre .0 .few-rows)
+          (λ e h. row-below (a .changes .rows) (numberAt (a .changes) (a .new .now) (a .from + e)) _ (s .pre .0 .rowed) (rows e h)),
       λ k ew. (
-        (λ e h. seated k (a .words) (a .work .rows) (numberAt (a .work) (a .new .now) (a .from + e)) _ _ ew (rows e h) (each .1 e h)),
-        walked (a .work) (a .new .now) k (a .words) (a .from) (a .n) _ ew rows
-            ∙ ap (λ (t : ℕ). workTurns standard k (a .work .rows) (firsts (a .work) (a .new .now) (a .from)) + t) (sym (each .0)),
+        (λ e h. seated k (a .words) (a .changes .rows) (numberAt (a .changes) (a .new .now) (a .from + e)) _ _ ew (rows e h) (each .1 e h)),
+        walked (a .changes) (a .new .now) k (a .words) (a .from) (a .n) _ ew rows
+            ∙ ap (λ (t : ℕ). tokenTurns standard k (a .changes .rows) (firsts (a .changes) (a .new .now) (a .from)) + t) (sym (each .0)),
       ),
     )
 

@@ -1,4 +1,4 @@
--- The ladder from its tests, by code-of.
+-- The list of checks from its tests, by code-of.
 use Rattle.pools.proofs.GatherLaws.{code-of}
 use lib.ListN.{length}
 use borrow.Author.Tests.{eq-eqb, ne-eqb, not-true, not-false}

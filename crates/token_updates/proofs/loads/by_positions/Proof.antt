@@ -1,4 +1,4 @@
--- The blocks, all live, come behind those before the first; what they make of the digest, and the work, is that of their changes, by done-added.
+-- The blocks, all live, come behind those before the first; what they make of the digest, and the totals, are those of their changes, by done-added.
 use borrow.Author.Needs.{needs}
 use native.Mathlib.Omega.{arith}
 use mathlib.Core.Path.{refl, sym}
@@ -10,13 +10,13 @@ use Rattle.tokens.specs.Keyed.{tokenKey}
 use Rattle.digests.specs.declared.Span.{Span}
 use Rattle.digests.proofs.ContentLaws.{contents-live, told-live}
 use Rattle.digests.proofs.TurnLaws.{tabled-under}
-use Rattle.block_changes.specs.declared.Work.{Work}
+use Rattle.block_changes.specs.declared.BlockChanges.{BlockChanges}
 use Rattle.token_updates.proofs.AddedLaws.{done-added}
 use Rattle.token_updates.proofs.loads.by_positions.Statement.{statement}
 use Rattle.token_updates.proofs.loads.by_positions.Tie as tie
 
 -- how the blocks lie, with k bytes of mark
-abbrev span : Work → ℕ → Span
+abbrev span : BlockChanges → ℕ → Span
 span w k = record { rows = w .rows; size = w .size; count = w .count; mark = k; step = 0 }
 
 slice-aggregate-key-words : tie.Need-slice-aggregate-key-words
@@ -45,7 +45,7 @@ slice-aggregate-grown : tie.Need-slice-aggregate-grown
 slice-aggregate-grown c =
     let s = c .before .before .before .before .before .before .before .before .before .before in
     let a = s .args in
-    sym (length-take-le (a .work .count * a .work .size) (a .new .now) (s .pre .0 .added (s .pre .1) .whole))
+    sym (length-take-le (a .changes .count * a .changes .size) (a .new .now) (s .pre .0 .added (s .pre .1) .whole))
 
 slice-aggregate-grown-2 : tie.Need-slice-aggregate-grown-2
 slice-aggregate-grown-2 c = search needs
@@ -63,9 +63,9 @@ grown-requires c κs =
         few-rows = several .few-rows;
         small = several .small;
         few = several .few;
-        whole = length-take-le (a .work .count * a .work .size) (a .new .now) (added .whole);
+        whole = length-take-le (a .changes .count * a .changes .size) (a .new .now) (added .whole);
         lone = lone;
-        told = told-live (span (a .work) (counted .marks-in .result)) refl lone;
+        told = told-live (span (a .changes) (counted .marks-in .result)) refl lone;
       },
       omega (arith, added .from-one, added .most),
       several .drawn,
@@ -80,7 +80,7 @@ turns-back-requires c κs =
     let several = s .pre .0 in (
       several .rowed,
       several .few-rows,
-      tabled-under _ _ (half (s .args .work .rows)) _ (sym (keyed .key-words .ensures)) (s .pre .2),
+      tabled-under _ _ (half (s .args .changes .rows)) _ (sym (keyed .key-words .ensures)) (s .pre .2),
       omega (arith, several .added (s .pre .1) .most),
       several .few,
     )
@@ -96,7 +96,7 @@ returns c =
     let keyed = hashing .before in
     let s = keyed .before .before .before .before .before in
     let a = s .args in
-    let w = a .work in
+    let w = a .changes in
     let added = s .pre .0 .added (s .pre .1) in
     done-added w (a .new .now) (w .first - 1) (s .pre .1) (omega (arith, added .from-one)) (a .t1) _ _ (tokenKey (a .z) (a .i .0)) (a .x) _ _ _ _ (added .fresh) (added .whole)
     (contents-live (w .version) (span w (counted .marks-in .result)) (take (w .count * w .size) (a .new .now)) refl (counted .marks-in .ensures .0))

@@ -1,0 +1,4 @@
+pub mod Codes
+pub mod Sizes
+pub mod Lengths
+pub mod Limits

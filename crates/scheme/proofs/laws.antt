@@ -1,0 +1,24 @@
+-- Laws of the definitions, which the theorems and the proofs of the code cite.
+pub mod SumLaws
+pub mod GeometryLaws
+pub mod TokenLaws
+pub mod CheckLaws
+pub mod RecordLaws
+pub mod LimitLaws
+pub mod TableLaws
+pub mod MarkLaws
+pub mod JudgingLaws
+pub mod LoopLaws
+pub mod CardLaws
+pub mod PoolLaws
+pub mod CallLaws
+pub mod ResealLaws
+pub mod TotalLaws
+pub mod NewerLaws
+pub mod BatchLaws
+pub mod RoleLaws
+pub mod BookLaws
+pub mod FollowLaws
+pub mod AfterLaws
+pub mod StepLaws
+pub mod SevenLaws
