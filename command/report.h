@@ -17,6 +17,10 @@ void say(const char *format, ...);
 void field(const char *name, uint64_t number);
 void field_text(const char *name, const char *words);
 
+/* How many bytes the first character of a text has, in UTF-8. Returns 0 where it begins with a control
+ * character, or with no character at all. */
+int plain_length(const char *words);
+
 /* Prints the object where JSON is asked for, and answers the status. */
 int ended(enum status status);
 
