@@ -90,6 +90,7 @@ int run_draw(const struct options *o)
     if (result != LEGBARO_OK)
         refuse_draw(o, &plan, result);
     settle(&owner);
+    owner.entry.token = in_card(owner.card, LEGBARO_CARD_OPEN, 4);
     prepare(&owner.folder, "message", 0600, &piece, 1);
     store_card(&owner);
     tell_drawn(o, &owner);
@@ -154,7 +155,7 @@ static void refuse_unjudged(const struct options *o, uint64_t cause)
 static void tell_verdict(const struct owner *owner, enum status status, uint64_t token, uint64_t cause)
 {
     field("token", token);
-    field_text("verdict", status == DONE ? "accepted" : "rejected");
+    field_text("verdict", verdict_word(status));
     if (status == DONE)
         say("ACCEPTED: the host holds every block in the rows that token %" PRIu64 " draws", token);
     else
@@ -177,6 +178,9 @@ int run_judge(const struct options *o)
     uint64_t result = legbaro_judge(o->role, LENT(owner.master), LENT(owner.card), LENT(reply));
     enum status status = result == LEGBARO_OK ? DONE : REJECTED;
     settle(&owner);
+    owner.entry.token = token;
+    owner.entry.verdict = verdict_word(status);
+    owner.entry.cause = cause;
     prepare_card(&owner);
     tell_verdict(&owner, status, token, cause);
     ended(status);
