@@ -20,6 +20,12 @@ int run_judge(const struct options *options);
 int run_cause(const struct options *options);
 int run_show(const struct options *options);
 
+/* Of several folders, and of what happened: status.c, log.c, page.c. The list of commands: main.c. */
+int run_status(const struct options *options);
+int run_log(const struct options *options);
+int run_report(const struct options *options);
+int run_help(const struct options *options);
+
 /* The host's: apply.c, prove.c. */
 int run_apply(const struct options *options);
 int run_prove(const struct options *options);
