@@ -37,7 +37,8 @@ _legbaro_options() { # COMMAND SECOND
     set-up) echo --key --id --version --block-bytes --rows --positions --tokens --progress ;;
     append | load | batch) echo --role --host --key --progress ;;
     update | delete) echo --role --host --key --progress --old --mark ;;
-    commit | drop) echo --role ;;
+    commit) echo --role --again ;;
+    drop) echo --role ;;
     draw) echo --role --key --plan --at --again ;;
     wait) echo --plan --at ;;
     cause) echo --role --key ;;
