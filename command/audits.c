@@ -1,4 +1,4 @@
-/* Audits, the owner's side: draw, wait, judge, cause. */
+/* Audits, the owner's side: draw, judge, cause. */
 #include "codes.h"
 #include "commands.h"
 #include "owner.h"
@@ -8,7 +8,7 @@
 
 #include <inttypes.h>
 
-/* ---- Draw and wait ---- */
+/* ---- Draw ---- */
 
 /* Where the plan allows no draw, the wait is told with the refusal. */
 static void refuse_draw(const struct options *o, const struct plan *plan, uint64_t result)
@@ -94,23 +94,6 @@ int run_draw(const struct options *o)
     prepare(&owner.folder, "message", 0600, &piece, 1);
     store_card(&owner);
     tell_drawn(o, &owner);
-    return ended(DONE);
-}
-
-int run_wait(const struct options *o)
-{
-    struct plan plan = read_plan(o);
-    uint64_t result = legbaro_wait(plan.bytes, sizeof plan.bytes, plan.year, plan.month, plan.day, plan.minute);
-    if (LEGBARO_CODE(result) != LEGBARO_OK)
-        turn_away(result, "--at");
-    uint64_t minutes = LEGBARO_NUMBER(result);
-    field("minutes", minutes);
-    if (minutes == 0)
-        say("a draw is allowed now");
-    else if (minutes == LEGBARO_WEEK_MINUTES)
-        say("%s allows no draw at all", plan.path);
-    else
-        say("a draw is allowed in %s (%" PRIu64 " minutes)", wait_words(minutes), minutes);
     return ended(DONE);
 }
 

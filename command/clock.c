@@ -95,6 +95,8 @@ struct tm local_time(time_t time)
 const char *zone_words(const struct tm *local)
 {
     long minutes = local->tm_gmtoff / MINUTE, size = labs(minutes);
+    if (!minutes && !strcmp(local->tm_zone, "UTC"))
+        return "UTC";
     return text("%s, UTC%c%02ld:%02ld", local->tm_zone, minutes < 0 ? '-' : '+', size / 60, size % 60);
 }
 

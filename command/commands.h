@@ -4,7 +4,7 @@
 
 #include "options.h"
 
-/* The owner's: set_up.c, changes.c, audits.c, show.c. */
+/* The owner's: set_up.c, changes.c, audits.c, wait.c, show.c. */
 int run_key(const struct options *options);
 int run_set_up(const struct options *options);
 int run_append(const struct options *options);

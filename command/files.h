@@ -34,6 +34,9 @@ void put_number(uint8_t *at, unsigned width, uint64_t number);
 struct bytes map_file(const char *path);
 struct bytes map_whole(const char *path, uint64_t length, const char *what, const char *next);
 
+/* Gives back what map_file or shared_room gave out, before the program ends. */
+void unmap(struct bytes mapped);
+
 /* Reads the bytes of a regular file from an offset on into `bytes`, and writes the file's length.
  * Returns 0 where the file is shorter than that. */
 int read_part(const char *path, uint64_t offset, struct bytes bytes, uint64_t *length);

@@ -123,13 +123,13 @@ static struct tail read_tail(const struct folder *folder)
         memcpy(tail.torn.at, file.at + whole, file.length - whole);
     }
     read_last_line(file.at, whole, &tail.last);
-    unmap_journal(file);
+    unmap(file);
     return tail;
 }
 
 static int is_of(const struct line *line, const struct standing *now)
 {
-    return !strcmp(line->checksum, text("%08" PRIx32, now->checksum));
+    return !strcmp(is_owners(now) ? line->card : line->stands, text("%08" PRIx32, now->checksum));
 }
 
 /* ---- Appending ---- */
@@ -201,7 +201,7 @@ static const char *prepared_line(const struct folder *folder, const struct stand
     const char *found = text("%.*s", (int)file.length, (const char *)file.at);
     int whole = file.length && file.at[file.length - 1] == '\n' &&
                 read_line((const char *)file.at, (const char *)file.at + file.length - 1, &line);
-    unmap_journal(file);
+    unmap(file);
     return whole && is_of(&line, now) ? found : NULL;
 }
 

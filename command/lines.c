@@ -8,6 +8,7 @@
 
 #include <errno.h>
 #include <fcntl.h>
+#include <inttypes.h>
 #include <stddef.h>
 #include <string.h>
 #include <sys/mman.h>
@@ -22,8 +23,8 @@ static const struct {
 } known[] = {
     {"command", offsetof(struct line, command), 1},  {"role", offsetof(struct line, role), 1},
     {"id", offsetof(struct line, id), 1},            {"verdict", offsetof(struct line, verdict), 1},
-    {"program", offsetof(struct line, program), 1},  {"card", offsetof(struct line, checksum), 1},
-    {"stands", offsetof(struct line, checksum), 1},  {"counter", offsetof(struct line, counter), 0},
+    {"program", offsetof(struct line, program), 1},  {"card", offsetof(struct line, card), 1},
+    {"stands", offsetof(struct line, stands), 1},    {"counter", offsetof(struct line, counter), 0},
     {"blocks", offsetof(struct line, blocks), 0},    {"left", offsetof(struct line, left), 0},
     {"open", offsetof(struct line, open), 0},        {"pending", offsetof(struct line, pending), 0},
     {"token", offsetof(struct line, token), 0},      {"cause", offsetof(struct line, cause), 0},
@@ -60,9 +61,9 @@ static void keep(const struct json_field *field, struct line *line)
         line->time = read_utc(field->value + 1);
 }
 
-static struct line no_line(const char *at, size_t length)
+static struct line no_line(void)
 {
-    struct line none = {.time = UNKNOWN_TIME, .at = at, .length = length};
+    struct line none = {.time = UNKNOWN_TIME};
     for (int i = 0; i < KNOWN; i++)
         if (known[i].is_text)
             *(const char **)((char *)&none + known[i].at) = "";
@@ -77,13 +78,28 @@ int read_line(const char *at, const char *end, struct line *line)
     struct json_field field;
     const char *now = at;
     int found = -1;
-    *line = no_line(at, length);
+    *line = no_line();
     while (length <= MOST_LINE_BYTES && (found = next_field(&now, end, &field)) > 0)
         keep(&field, line);
     if (found == 0 && line->time != UNKNOWN_TIME && *line->command)
         return 1;
-    *line = no_line(at, length);
+    *line = no_line();
     return 0;
+}
+
+const char *json_of_line(const struct line *line)
+{
+    const char *object = text("{\"time\": \"%s\"", utc_words(line->time));
+    for (int i = 0; i < KNOWN; i++) {
+        const void *place = (const char *)line + known[i].at;
+        const char *words = known[i].is_text ? *(const char *const *)place : "";
+        uint64_t number = known[i].is_text ? UNTOLD : *(const uint64_t *)place;
+        if (*words)
+            object = text("%s, \"%s\": %s", object, known[i].name, json_text(words));
+        if (number != UNTOLD)
+            object = text("%s, \"%s\": %" PRIu64, object, known[i].name, number);
+    }
+    return text("%s}", object);
 }
 
 /* ---- Files ---- */
@@ -108,12 +124,6 @@ int map_journal(const char *path, struct bytes *file)
     file->at = at;
     file->length = (size_t)status.st_size;
     return 1;
-}
-
-void unmap_journal(struct bytes file)
-{
-    if (file.length)
-        munmap(file.at, file.length);
 }
 
 int next_line(const struct bytes *file, size_t *at, const char **begin, const char **end)
@@ -150,5 +160,5 @@ void read_last_line(const uint8_t *at, size_t length, struct line *line)
     if (previous_line(&lines, &from, &begin, &end))
         read_line(begin, end, line);
     else
-        *line = no_line("", 0);
+        *line = no_line();
 }

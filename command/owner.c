@@ -225,7 +225,9 @@ struct bytes read_card(const char *folder)
                card.length, version, LEGBARO_WRONG_HEADER);
     }
     check_limits(path, card);
-    return copy_of(card);
+    struct bytes copy = copy_of(card);
+    unmap(card);
+    return copy;
 }
 
 struct owner open_card(const char *path)
