@@ -17,7 +17,7 @@
 #include <string.h>
 #include <unistd.h>
 
-enum { DAY = 24 * 60 * 60 };
+enum { DAY = 24 * 60 * 60, NEWEST_BYTES = 1 << 18 };
 
 /* A look while it is taken: what may be refused is attempted with it. */
 struct taking {
@@ -70,15 +70,15 @@ static int is_found(const struct look *look)
     return begun && (!drawn || look->accepted != UNKNOWN_TIME);
 }
 
-/* Whether a line may have what is looked for, before it is read whole. */
-static int is_candidate(const char *begin, const char *end)
+/* Whether a line may have what is looked for, before it is read whole: draws and verdicts have a token. */
+static int is_candidate(const struct look *look, const char *begin, const char *end)
 {
     size_t length = (size_t)(end - begin);
-    return memmem(begin, length, "\"verdict\"", 9) || memmem(begin, length, "\"draw\"", 6) ||
-           memmem(begin, length, "\"ask ", 5);
+    return memmem(begin, length, "\"token\"", 7) || (look->pending && memmem(begin, length, "\"ask ", 5));
 }
 
-/* Goes through the journal backwards, until all is found. */
+/* Goes through the journal backwards, until all is found. After a rejection the last acceptance is looked for
+ * in the newest part of the journal alone. */
 static void read_journal(struct look *look)
 {
     struct bytes file;
@@ -89,9 +89,12 @@ static void read_journal(struct look *look)
     for (size_t at = 0; look->begun == UNKNOWN_TIME && next_line(&file, &at, &begin, &end);)
         if (read_line(begin, end, &line))
             look->begun = line.time;
-    for (size_t at = file.length; !is_found(look) && previous_line(&file, &at, &begin, &end);)
-        if (is_candidate(begin, end) && read_line(begin, end, &line))
+    for (size_t at = file.length; !is_found(look) && previous_line(&file, &at, &begin, &end);) {
+        if (is_candidate(look, begin, end) && read_line(begin, end, &line))
             note_line(look, &line);
+        if (look->judged != UNKNOWN_TIME && file.length - at > NEWEST_BYTES)
+            break;
+    }
     unmap(file);
 }
 
@@ -163,13 +166,22 @@ static void judge_overdue(struct look *look, uint64_t days, time_t now)
         needs(look, ATTENTION, text("overdue: no audit has passed. Next: %s", overdue_next(look)));
 }
 
+/* What is to be done after a rejection: the host has lost blocks, or its reply was none. */
+static const char *rejected_words(uint64_t cause)
+{
+    if (cause == LEGBARO_CAUSE_DIGEST)
+        return "the last audit was rejected: the host has lost what it was to keep. Next: ask it to put "
+               "the blocks back from a copy, and draw again";
+    return text("the last audit was rejected: %s. Next: draw again", cause_words(cause));
+}
+
 /* What is the matter with a card that can be read; what comes first counts, of the same need. */
 static void judge_card(struct look *look, const struct options *o, time_t now)
 {
     if (!strcmp(look->verdict, "rejected"))
-        needs(look, ATTENTION, text("rejected: %s. %s", cause_words(look->cause), cause_next(look->cause)));
+        needs(look, ATTENTION, rejected_words(look->cause));
     if (!look->left && !look->open)
-        needs(look, ATTENTION, "every token is spent: set up a new file, by legbaro(1), under RENEWING");
+        needs(look, ATTENTION, "every token is spent: set up a new file, by legbaro(1), under RENEWING A FILE");
     if (look->judged != UNKNOWN_TIME && look->judged > now)
         needs(look, ATTENTION, "the last verdict is in the future: look at the clock");
     if (o->every != UNTOLD)

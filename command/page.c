@@ -44,7 +44,7 @@ static const char *last_html(const struct look *look)
                             : "faint";
     return look->judged == UNKNOWN_TIME
                ? last_words(look)
-               : text("<span class=\"%s\">%s</span> %s", known, html_text(look->verdict),
+               : text("<span class=\"%s\">%s</span> <span class=\"day\">%s</span>", known, html_text(look->verdict),
                       local_words(look->judged));
 }
 
@@ -69,7 +69,7 @@ static void put_row(FILE *page, const struct look *look, int number)
     put_cell(page, "Audits left", "number", look->is_owners ? grouped(look->left) : "-");
     put_cell(page, "Last audit", "date", last_html(look));
     put_cell(page, "Open", "open", html_text(open_words(look)));
-    put_cell(page, "Next draw", "date", opening_words(look));
+    put_cell(page, "Next draw", "date day", opening_words(look));
     put_cell(page, "What to do", "what", *look->what ? html_text(look->what) : "-");
     fputs("</tr>\n", page);
 }
