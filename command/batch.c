@@ -90,7 +90,7 @@ struct batch read_batch(const char *path, uint64_t version, uint64_t block_bytes
         add_item(&b, &line, version, block_bytes);
     if (!b.count) {
         line.number = 0;
-        bad_line(&line, "the list has no update and no deletion");
+        bad_line(&line, "it has no update and no deletion");
     }
     b.items.length = b.count * LEGBARO_ITEM_BYTES(version, block_bytes);
     b.places.length = b.count * CHANGE_ITEM_BYTES;

@@ -271,7 +271,12 @@ static int end_pending(const struct options *o, ending *call, const char *done, 
         say("warning: %s is not there or is damaged. Unless the host has it whole, this file can't be "
             "changed or audited any more",
             path_in(o->folder, "change"));
-    say("next: %s", next);
+    if (known)
+        say("next: %s", next);
+    else
+        say("next: send %s to the host; if the host has the change, it runs 'legbaro apply --committed "
+            "committed change'",
+            path_in(o->folder, "committed"));
     return ended(DONE);
 }
 

@@ -23,7 +23,7 @@ _legbaro() {
     elif [ "$command" = ask ] && [ "$second" = "$word" ]; then
         mapfile -t COMPREPLY < <(compgen -W 'append load update delete batch' -- "$word")
     elif [ "$command" = parity ] && [ "$second" = "$word" ]; then
-        mapfile -t COMPREPLY < <(compgen -W 'encode rebuild' -- "$word")
+        mapfile -t COMPREPLY < <(compgen -W 'encode check rebuild' -- "$word")
     elif [[ $word == -* ]]; then
         mapfile -t COMPREPLY < <(compgen -W "-C --json --help $(_legbaro_options "$command" "$second")" -- "$word")
     else
@@ -47,7 +47,12 @@ _legbaro_options() { # COMMAND SECOND
     prove | pool) echo --out --force ;;
     positions) echo --positions --rows --blocks ;;
     sheet) echo --block-bytes --rows --positions --tokens --blocks --damaged --svg --force ;;
-    parity) echo --block-bytes --data --parity --out --force "$([ "$2" != rebuild ] || echo --lost --lost-parity)" ;;
+    parity)
+        echo --block-bytes --data --parity
+        [ "$2" = check ] || echo --out --force
+        [ "$2" = encode ] || echo --blocks
+        [ "$2" != rebuild ] || echo --lost --lost-parity
+        ;;
     esac
 }
 

@@ -77,7 +77,7 @@ static struct prepared {
     struct prepared *next;
     int folder;
     const char *name;
-} *prepared;
+} * prepared;
 static int placed;
 
 static void note_prepared(const struct folder *folder, const char *name)
@@ -89,11 +89,14 @@ static void note_prepared(const struct folder *folder, const char *name)
     prepared = file;
 }
 
-/* Removes what was prepared, where nothing of it has been placed: the command changes nothing then. */
+/* Removes what was prepared, where nothing of it has been placed: the command changes nothing then.
+ */
 static void undo_prepared(void)
 {
     for (; prepared && !placed; prepared = prepared->next)
         unlinkat(prepared->folder, prepared->name, 0);
+    if (!placed)
+        undo_folder();
 }
 
 /* What an earlier command prepared does not count. */
@@ -174,10 +177,20 @@ void place(const struct folder *folder, const char *name)
     do
         result = renameat(folder->at, beside, folder->at, name);
     while (interrupted(result));
-    if (result != 0)
+    if (result != 0) {
+        int fault = errno;
+        if (is_in(folder, beside))
+            undo_prepared();
+        errno = fault;
         file_fault("write", path_in(folder->path, name));
+    }
     note_placed(folder, beside);
+    int was = is_decided();
+    if (!was)
+        decided("The file is in its place, but may be lost where the power fails now.");
     sync_folder(folder);
+    if (!was)
+        decided(NULL);
 }
 
 void take_away(const struct folder *folder, const char *name)
@@ -206,6 +219,7 @@ void move_aside(const struct folder *folder, const char *name)
     if (result != 0)
         file_fault("move", path_in(folder->path, name));
     sync_folder(folder);
+    field_text("aside", path_in(folder->path, aside));
     say("%s is moved aside: it is %s now", path_in(folder->path, name),
         path_in(folder->path, aside));
 }

@@ -23,7 +23,7 @@
 static union held {
     union held *next;
     long double aligned;
-} *held;
+} * held;
 
 static void give_back(void)
 {
@@ -41,7 +41,8 @@ static void no_memory(size_t length)
 
 struct bytes room(size_t length)
 {
-    union held *taken = length < SIZE_MAX - sizeof *taken ? calloc(1, sizeof *taken + length) : NULL;
+    union held *taken =
+        length < SIZE_MAX - sizeof *taken ? calloc(1, sizeof *taken + length) : NULL;
     struct bytes bytes = {(uint8_t *)(taken + 1), length};
     if (!taken)
         no_memory(length);
@@ -54,7 +55,8 @@ struct bytes room(size_t length)
 
 struct bytes shared_room(size_t length)
 {
-    void *at = mmap(NULL, length ? length : 1, PROT_READ | PROT_WRITE, MAP_SHARED | MAP_ANONYMOUS, -1, 0);
+    void *at =
+        mmap(NULL, length ? length : 1, PROT_READ | PROT_WRITE, MAP_SHARED | MAP_ANONYMOUS, -1, 0);
     struct bytes bytes = {at, length};
     if (at == MAP_FAILED)
         no_memory(length);
@@ -95,7 +97,7 @@ static struct seen {
     struct seen *next;
     dev_t device;
     ino_t inode;
-} *seen;
+} * seen;
 
 static void note_read(const struct stat *status)
 {
@@ -210,8 +212,8 @@ struct bytes map_whole(const char *path, uint64_t length, const char *what, cons
     return bytes;
 }
 
-/* Returns up to `most` bytes of a file, a pipe or standard input. Of more, the length alone is right:
- * that of a regular file, and else `most` + 1. */
+/* Returns up to `most` bytes of a file, a pipe or standard input. Of more, the length alone is
+ * right: that of a regular file, and else `most` + 1. */
 static struct bytes read_up_to(const char *path, size_t most)
 {
     struct stat status = {0};
@@ -277,6 +279,15 @@ struct bytes copy_of(struct bytes mapped)
 
 /* ---- Folders ---- */
 
+/* The folder that this run has made, or null. */
+static const char *made;
+
+void undo_folder(void)
+{
+    if (made)
+        rmdir(made);
+}
+
 /* Makes a folder where it is missing; its name is on the disk then. */
 static void make_folder(const char *path)
 {
@@ -285,6 +296,7 @@ static void make_folder(const char *path)
             file_fault("make", path);
         return;
     }
+    made = path;
     int above = open(text("%s/..", path), O_RDONLY | O_DIRECTORY | O_CLOEXEC);
     if (above < 0 || !sync_file(above))
         file_fault("store the name of", path);
@@ -299,7 +311,8 @@ void refuse_link(const struct folder *folder, const char *name)
         return;
     about(path);
     refuse(TURNED_AWAY,
-           "A command would replace the link, and the file that it names would stay the older one. Put "
+           "A command would replace the link, and the file that it names would stay the older one. "
+           "Put "
            "the file itself into the folder; the folder may be a link. Nothing has changed.",
            "%s is a symbolic link", path);
 }

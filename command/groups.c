@@ -18,10 +18,13 @@ static struct groups read_numbers(const struct options *o)
     struct groups g = {.o = o, .bytes = o->block_bytes, .data = o->data, .parity = o->parity};
     if (!g.bytes || g.bytes > LEGBARO_MOST_BLOCK_BYTES)
         turn_away(LEGBARO_OUT_OF_LIMITS, text("--block-bytes %" PRIu64, g.bytes));
-    if (!g.data || g.data > LEGBARO_MOST_DATA_BLOCKS || !g.parity || g.parity > LEGBARO_MOST_PARITY_BLOCKS) {
+    if (!g.data || g.data > LEGBARO_MOST_DATA_BLOCKS || !g.parity ||
+        g.parity > LEGBARO_MOST_PARITY_BLOCKS) {
         field("code", LEGBARO_BAD_GROUP);
-        refuse(TURNED_AWAY, "Give other numbers.", "--data %" PRIu64 " may be 1 to %d, and --parity %" PRIu64 " 1 to %d (code %d)",
-               g.data, LEGBARO_MOST_DATA_BLOCKS, g.parity, LEGBARO_MOST_PARITY_BLOCKS, LEGBARO_BAD_GROUP);
+        refuse(TURNED_AWAY, "Give other numbers.",
+               "--data %" PRIu64 " may be 1 to %d, and --parity %" PRIu64 " 1 to %d (code %d)",
+               g.data, LEGBARO_MOST_DATA_BLOCKS, g.parity, LEGBARO_MOST_PARITY_BLOCKS,
+               LEGBARO_BAD_GROUP);
     }
     g.file = map_file(o->words[0]);
     return g;
@@ -40,8 +43,10 @@ static void count_blocks(struct groups *g, const char *next)
     about(g->o->words[0]);
     if (!g->file.length || rest) {
         field("code", LEGBARO_NOT_WHOLE_BLOCKS);
-        refuse(TURNED_AWAY, next, "%s has %zu bytes, which is not a whole number of blocks of %s (code %d)",
-               g->o->words[0], g->file.length, counted(g->bytes, "byte", "bytes"), LEGBARO_NOT_WHOLE_BLOCKS);
+        refuse(TURNED_AWAY, next,
+               "%s has %zu bytes, which is not a whole number of blocks of %s (code %d)",
+               g->o->words[0], g->file.length, counted(g->bytes, "byte", "bytes"),
+               LEGBARO_NOT_WHOLE_BLOCKS);
     }
     set_blocks(g, g->file.length / g->bytes);
 }
@@ -68,13 +73,15 @@ static void refuse_parity(const struct groups *g)
     uint64_t in_group = g->parity * g->bytes, groups = g->kept.length / in_group;
     const char *next = "Look whether the numbers are those of encoding.";
     if (g->kept.length % in_group == 0)
-        next = text("Look whether the numbers are those of encoding. If %s is cut, give --blocks, the number that it had, from "
+        next = text("Look whether the numbers are those of encoding. If %s is cut, give --blocks, "
+                    "the number that it had, from "
                     "%" PRIu64 " to %" PRIu64 ": the missing ones then count as lost.",
                     g->o->words[0], (groups - 1) * g->data + 1, groups * g->data);
     about(path);
     field("code", LEGBARO_WRONG_LENGTH);
-    refuse(TURNED_AWAY, next, "%s has %zu bytes, and the parity of %s has %" PRIu64 " (code %d)", path, g->kept.length,
-           counted(g->blocks, "block", "blocks"), g->count * in_group, LEGBARO_WRONG_LENGTH);
+    refuse(TURNED_AWAY, next, "%s has %zu bytes, and the parity of %s has %" PRIu64 " (code %d)",
+           path, g->kept.length, counted(g->blocks, "block", "blocks"), g->count * in_group,
+           LEGBARO_WRONG_LENGTH);
 }
 
 struct groups read_blocks(const struct options *o)
@@ -88,7 +95,8 @@ struct groups read_both(const struct options *o)
 {
     struct groups g = read_numbers(o);
     if (o->blocks == UNTOLD)
-        count_blocks(&g, "Look whether --block-bytes is right. If the file is cut, give --blocks, the number of blocks that it had: "
+        count_blocks(&g, "Look whether --block-bytes is right. If the file is cut, give --blocks, "
+                         "the number of blocks that it had: "
                          "the missing ones then count as lost.");
     else
         take_blocks(&g, o->blocks);
@@ -115,12 +123,14 @@ uint64_t data_of(const struct groups *g, uint64_t group)
 const char *group_words(const struct groups *g, uint64_t group)
 {
     uint64_t first = group * g->data + 1, last = first + data_of(g, group) - 1;
-    return first == last ? text("block %" PRIu64, first) : text("blocks %" PRIu64 " to %" PRIu64, first, last);
+    return first == last ? text("block %" PRIu64, first)
+                         : text("blocks %" PRIu64 " to %" PRIu64, first, last);
 }
 
 struct group new_group(const struct groups *g)
 {
-    struct group group = {.blocks = room((g->data + g->parity) * g->bytes), .made = room(g->data * g->bytes),
+    struct group group = {.blocks = room((g->data + g->parity) * g->bytes),
+                          .made = room(g->data * g->bytes),
                           .parity = room(g->parity * g->bytes)};
     return group;
 }
@@ -147,7 +157,8 @@ void read_group(const struct groups *g, struct group *group, uint64_t number)
     group->blocks.length = group->count * g->bytes;
     group->made.length = group->data * g->bytes;
     copy_part(group->blocks.at, g->file, number * g->data * g->bytes, group->made.length);
-    copy_part(group->blocks.at + group->made.length, g->kept, number * g->parity * g->bytes, g->parity * g->bytes);
+    copy_part(group->blocks.at + group->made.length, g->kept, number * g->parity * g->bytes,
+              g->parity * g->bytes);
     group->lost = 0;
     for (uint64_t i = 0; i < group->count; i++) {
         group->gone[i] = *state_of(g, group, i) != HERE;
@@ -162,19 +173,21 @@ uint64_t make_data(const struct groups *g, struct group *group)
     for (uint64_t i = 0; i < group->count; i++)
         if (group->gone[i])
             lost[count++] = (uint8_t)i;
-    uint64_t result =
-        legbaro_parity_rebuild(g->bytes, group->data, g->parity, LENT(group->blocks), lost, count, LENT(group->made));
+    uint64_t result = legbaro_parity_rebuild(g->bytes, group->data, g->parity, LENT(group->blocks),
+                                             lost, count, LENT(group->made));
     if (result == LEGBARO_OK)
-        result = legbaro_parity_encode(g->bytes, group->data, g->parity, LENT(group->made), LENT(group->parity));
+        result = legbaro_parity_encode(g->bytes, group->data, g->parity, LENT(group->made),
+                                       LENT(group->parity));
     return result;
 }
 
-/* The first byte of a block at which a parity block that is not gone differs from the parity of the data
- * that were made; the block bytes where none does. */
+/* The first byte of a block at which a parity block that is not gone differs from the parity of the
+ * data that were made; the block bytes where none does. */
 static uint64_t first_difference(const struct groups *g, const struct group *group)
 {
     for (uint64_t i = 0; i < g->parity; i++) {
-        const uint8_t *is = group->blocks.at + (group->data + i) * g->bytes, *made = group->parity.at + i * g->bytes;
+        const uint8_t *is = group->blocks.at + (group->data + i) * g->bytes,
+                      *made = group->parity.at + i * g->bytes;
         if (group->gone[group->data + i] || !memcmp(is, made, g->bytes))
             continue;
         for (uint64_t at = 0;; at++)
@@ -190,7 +203,8 @@ int agrees(const struct groups *g, const struct group *group)
 }
 
 /* Leaves the wrong blocks of one byte as gone. Returns how many are new among them. */
-static uint64_t leave_out(const struct groups *g, struct group *group, const uint8_t *lost, uint64_t at)
+static uint64_t leave_out(const struct groups *g, struct group *group, const uint8_t *lost,
+                          uint64_t at)
 {
     uint8_t bytes[MOST_GROUP], wrong[MOST_GROUP] = {0};
     uint64_t found = 0;
@@ -231,7 +245,8 @@ uint64_t blocks_before_cut(const struct groups *g)
         other.states[n - 1] = MISSING;
         other.blocks = n;
         read_group(&other, &group, g->count - 1);
-        if (group.lost < g->parity && make_data(&other, &group) == LEGBARO_OK && agrees(&other, &group))
+        if (group.lost < g->parity && make_data(&other, &group) == LEGBARO_OK &&
+            agrees(&other, &group))
             return n;
     }
     return 0;

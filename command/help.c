@@ -42,8 +42,8 @@ static const struct meaning {
     {"force", "", "replace a file of another kind"},
     {"data", "NUMBER", "blocks in a group, 1 to 48"},
     {"parity", "NUMBER", "parity blocks for a group, 1 to 16"},
-    {"lost", "NUMBERS", "blocks that are lost, as in 3,7"},
-    {"lost-parity", "NUMBERS", "parity blocks that are lost, as in 3,7"},
+    {"lost", "NUMBERS", "blocks that are lost, as in 3,7-9"},
+    {"lost-parity", "NUMBERS", "parity blocks that are lost, as in 3,7-9"},
     {"since", "DATE", "from a date on, as in 2026-11-01 or 2026-11-01T08:00"},
     {"audits", "", "verdicts alone"},
     {"every", "DAYS", "an audit is overdue when the last accepted one is older"},
@@ -108,8 +108,8 @@ void help_all(const struct commands *commands)
          "the host's folder; other words are relative to the current folder. The manual is legbaro(1).\n\n"
          "Which of three centres needs attention: 'legbaro status north south east', where these are the\n"
          "owner's folders of the three. With '--every 7' a centre without an audit for a week does too.\n\n"
-         "Exit status: 0 done or accepted, 1 rejected or in need of attention, 2 refused, 3 wrong use,\n"
-         "4 a file can't be read or written.");
+         "Exit status: 0 done or accepted, 1 rejected, in need of attention, or parity that does not agree,\n"
+         "2 refused, 3 wrong use, 4 a file can't be read or written.");
 }
 
 static void print_option(const struct command *command, const char *option, const struct meaning *meaning)

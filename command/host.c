@@ -103,9 +103,14 @@ static int has_each(const struct host *host, const char *name, const struct chan
     return 1;
 }
 
+int is_being_put(const struct host *host, const struct change *c)
+{
+    return host->half && same_bytes(host->applying.table, c->table);
+}
+
 const char *differs(const struct host *host, const struct change *c)
 {
-    if (!same_bytes(map_file(path_in(host->folder.path, "table")), c->table))
+    if (host->half || !same_bytes(map_file(path_in(host->folder.path, "table")), c->table))
         return "table";
     if (!has_each(host, "blocks", c, c->blocks, c->block_bytes))
         return "blocks";
@@ -114,8 +119,8 @@ const char *differs(const struct host *host, const struct change *c)
 
 /* ---- The first change ---- */
 
-/* What was here before is the change's own, left by a command that stopped, or someone else's. Returns
- * whether it was here. */
+/* What was here before is the change's own, left by a command that stopped, or someone else's.
+ * Returns whether it was here. */
 static int refuse_others(const struct host *host, const char *name, struct bytes bytes)
 {
     const char *path = path_in(host->folder.path, name);
@@ -161,30 +166,29 @@ static int cut_back(const struct host *host, const char *name, uint64_t width)
 {
     struct stat status;
     uint64_t length = host->stands.blocks_after * width;
+    if (fstatat(host->folder.at, name, &status, 0) != 0)
+        return 0;
+    if ((uint64_t)status.st_size <= length)
+        return 1;
     int file = open_in(host, name);
-    if (fstat(file, &status) != 0)
-        return 0;
-    if ((uint64_t)status.st_size > length && (!resize_file(file, length) || !sync_file(file)))
-        return 0;
-    return close(file) == 0;
+    return resize_file(file, length) && sync_file(file) && close(file) == 0;
 }
 
-/* Where a command stopped while it added blocks, what stands is whole. */
+/* Where a command stopped while it added blocks, what stands is whole, and says how long `blocks` is.
+ * A damaged `adding` is undone in the same way: else the blocks after the last would stay for good. */
 static void undo_adding(const struct host *host)
 {
-    struct change c;
     if (!is_in(&host->folder, "adding"))
         return;
-    if (peek_change(path_in(host->folder.path, "adding"), &c) && follows(host, &c))
-        must(cut_back(host, "blocks", c.block_bytes), host, "blocks");
+    must(cut_back(host, "blocks", host->stands.block_bytes), host, "blocks");
     take_away(&host->folder, "adding");
 }
 
 /* Writes blocks after the last; a fault leaves what stands. */
 static void add_blocks(const struct host *host, const struct change *c)
 {
-    store(&host->folder, "adding", 0666, header_piece(c), 1);
     int file = open_in(host, "blocks");
+    store(&host->folder, "adding", 0666, header_piece(c), 1);
     progress_of("written", c->blocks.length);
     int whole = write_at(file, c->blocks_before * c->block_bytes, LENT(c->blocks)) &&
                 sync_file(file) && close(file) == 0;
@@ -200,8 +204,8 @@ static void add_blocks(const struct host *host, const struct change *c)
 
 /* ---- Further changes ---- */
 
-/* Writes bytes of each block of a change into a file that has so many for each: the blocks themselves,
- * or their marks. */
+/* Writes bytes of each block of a change into a file that has so many for each: the blocks
+ * themselves, or their marks. */
 static void write_each(const struct host *host, const char *name, const struct change *c,
                        struct bytes bytes, uint64_t width)
 {
@@ -212,7 +216,8 @@ static void write_each(const struct host *host, const char *name, const struct c
         uint64_t block = number_at(c->items.at + i * CHANGE_ITEM_BYTES, 4);
         done = write_at(file, (block - 1) * width, bytes.at + i * width, width);
     }
-    done = done && resize_file(file, c->blocks_after * width) && sync_file(file) && close(file) == 0;
+    done =
+        done && resize_file(file, c->blocks_after * width) && sync_file(file) && close(file) == 0;
     must(done, host, name);
 }
 
@@ -236,6 +241,7 @@ static void put_applying(struct host *host, const struct change *c)
 void put_in_place(struct host *host, const struct change *change)
 {
     struct change rest = *change;
+    decided("What stands has not changed. Mend what is wrong, and run the command again.");
     if (host->damaged) {
         must(cut_back(host, "blocks", change->block_bytes), host, "blocks");
         if (has_marks(change))
@@ -248,16 +254,17 @@ void put_in_place(struct host *host, const struct change *change)
         rest.blocks = room(0);
     }
     prepare(&host->folder, "applying", 0666, change_pieces(&rest), CHANGE_PIECES);
-    decided("The change is kept as 'applying'. Mend what is wrong, and run 'legbaro apply' again: it "
-            "goes on from there.");
+    decided(
+        "The change is kept as 'applying'. Mend what is wrong, and run 'legbaro apply' again: it "
+        "goes on from there.");
     place(&host->folder, "applying");
     put_applying(host, &rest);
 }
 
 /* ---- Opening ---- */
 
-/* Whether `applying` is whole, and is what follows what stands or stands already. Blocks that it leaves
- * out are in `blocks`. */
+/* Whether `applying` is whole, and is what follows what stands or stands already. Blocks that it
+ * leaves out are in `blocks`. */
 static int can_go_on(const struct host *host, struct change *c)
 {
     struct stat status;
@@ -268,20 +275,33 @@ static int can_go_on(const struct host *host, struct change *c)
                                 (uint64_t)status.st_size == c->blocks_after * c->block_bytes);
 }
 
-static void go_on(struct host *host, int mends)
+/* Looks at `applying`: what it is to make is what stands, for every check. */
+static void look_at_applying(struct host *host, int mends)
 {
     struct change c;
     host->damaged = !can_go_on(host, &c);
-    if (host->damaged) {
-        if (!mends)
-            refuse_damaged(host);
-        return;
+    host->half = !host->damaged;
+    if (host->damaged && !mends)
+        refuse_damaged(host);
+    if (host->half)
+        host->stands = host->applying = c;
+}
+
+void complete(struct host *host)
+{
+    if (host->half) {
+        decided("A change is half in place, and kept as 'applying'. Mend what is wrong, and run the "
+                "command again: it goes on from there.");
+        put_applying(host, &host->applying);
+        decided(NULL);
+        host->half = 0;
+    } else if (host->begun && !host->damaged) {
+        undo_adding(host);
     }
-    decided("A change is half in place, and kept as 'applying'. Mend what is wrong, and run the "
-            "command again: it goes on from there.");
-    put_applying(host, &c);
-    decided(NULL);
-    host->went_on = 1;
+    if (host->begun && is_journal_unsettled(&host->folder)) {
+        struct standing now = standing_of_host(&host->stands);
+        settle_journal(&host->folder, &now, NULL);
+    }
 }
 
 struct host open_host(const char *path, int make, int mends)
@@ -299,13 +319,7 @@ struct host open_host(const char *path, int make, int mends)
         host.stands = change_of_header(header.at);
     }
     if (is_in(&host.folder, "applying"))
-        go_on(&host, mends);
-    else if (host.begun)
-        undo_adding(&host);
-    if (host.begun && is_journal_unsettled(&host.folder)) {
-        struct standing now = standing_of_host(&host.stands);
-        settle_journal(&host.folder, &now, NULL);
-    }
+        look_at_applying(&host, mends);
     return host;
 }
 
@@ -313,10 +327,11 @@ void refuse_damaged(const struct host *host)
 {
     const char *path = path_in(host->folder.path, "applying");
     about(path);
-    refuse(TURNED_AWAY,
-           "Ask the owner for the change that follows what stands, and run 'legbaro apply' with it: "
-           "the damaged one is moved aside then. Nothing has changed.",
-           "%s, a change that is half in place, is damaged or does not follow what stands", path);
+    refuse(
+        TURNED_AWAY,
+        "Ask the owner for the change that follows what stands, and run 'legbaro apply' with it: "
+        "the damaged one is moved aside then. Nothing has changed.",
+        "%s, a change that is half in place, is damaged or does not follow what stands", path);
 }
 
 void refuse_other_file(const struct host *host, const uint8_t *id, const char *path)

@@ -1,16 +1,17 @@
 /*
  * See locate.h. A parity byte at point y is the sum of the data bytes d(q) / (y + q), by the header
- * legbaro/parity.h. With N(z) the sum of d(q) times the product of z + t over the data t other than q,
- * every byte of a group is N at its own number, divided by the product of that number + t over the data
- * t other than it. N has a degree below k, so a group is a Reed-Solomon code, and the method of Berlekamp
- * and Welch finds the wrong bytes: polynomials E of degree e, and Q of a degree below k + e, with
- * Q(i) = v(i) E(i) at every number i, where v(i) is what N(i) seems to be. E is 0 at the wrong ones.
+ * legbaro/parity.h. With N(z) the sum of d(q) times the product of z + t over the data t other than
+ * q, every byte of a group is N at its own number, divided by the product of that number + t over
+ * the data t other than it. N has a degree below k, so a group is a Reed-Solomon code, and the
+ * method of Berlekamp and Welch finds the wrong bytes: polynomials E of degree e, and Q of a degree
+ * below k + e, with Q(i) = v(i) E(i) at every number i, where v(i) is what N(i) seems to be. E is 0
+ * at the wrong ones.
  */
 #include "locate.h"
 
 #include <string.h>
 
-/* Equations in lines: the factors of the unknowns, and behind the last what they come to. */
+/* Equations in lines: the factors of the unknowns, and after the last what they come to. */
 struct equations {
     unsigned lines, unknowns;
     uint8_t at[MOST_GROUP][MOST_GROUP + 1];
@@ -74,7 +75,8 @@ static int solve(struct equations *m, uint8_t *solution)
     return 1;
 }
 
-/* The equation of the number i, where N seems to be v: Q's factors, E's below its first, and E's first. */
+/* The equation of the number i, where N seems to be v: Q's factors, E's below its first, and E's
+ * first. */
 static void add_equation(struct equations *m, unsigned data, unsigned errors, uint8_t i, uint8_t v)
 {
     uint8_t power = 1, *line = m->at[m->lines++];
@@ -86,7 +88,8 @@ static void add_equation(struct equations *m, unsigned data, unsigned errors, ui
 }
 
 /* Writes 1 where E, of which the factors below the first are told, is 0. Returns at how many. */
-static unsigned find_roots(const uint8_t *factors, unsigned errors, unsigned count, const uint8_t *gone, uint8_t *root)
+static unsigned find_roots(const uint8_t *factors, unsigned errors, unsigned count,
+                           const uint8_t *gone, uint8_t *root)
 {
     unsigned found = 0;
     for (unsigned i = 0; i < count; i++) {
@@ -99,7 +102,8 @@ static unsigned find_roots(const uint8_t *factors, unsigned errors, unsigned cou
     return found;
 }
 
-unsigned locate(unsigned data, unsigned parity, const uint8_t *bytes, const uint8_t *gone, uint8_t *wrong)
+unsigned locate(unsigned data, unsigned parity, const uint8_t *bytes, const uint8_t *gone,
+                uint8_t *wrong)
 {
     uint8_t seems[MOST_GROUP], solution[MOST_GROUP], root[MOST_GROUP];
     unsigned count = data + parity, left = count;
@@ -114,7 +118,8 @@ unsigned locate(unsigned data, unsigned parity, const uint8_t *bytes, const uint
         for (unsigned i = 0; i < count; i++)
             if (!gone[i])
                 add_equation(&m, data, errors, (uint8_t)i, seems[i]);
-        if (!solve(&m, solution) || find_roots(solution + data + errors, errors, count, gone, root) != errors)
+        if (!solve(&m, solution) ||
+            find_roots(solution + data + errors, errors, count, gone, root) != errors)
             continue;
         for (unsigned i = 0; i < count; i++)
             wrong[i] |= root[i];

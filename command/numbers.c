@@ -8,7 +8,8 @@
 uint64_t sheet_of(const struct numbers *of, struct sheet *sheet)
 {
     uint8_t out[LEGBARO_SHEET_BYTES] = {0};
-    uint64_t code = legbaro_sheet(of->block_bytes, of->rows, of->positions, of->tokens, of->blocks, of->damaged, out, sizeof out);
+    uint64_t code = legbaro_sheet(of->block_bytes, of->rows, of->positions, of->tokens, of->blocks,
+                                  of->damaged, out, sizeof out);
     sheet->table = number_at(out + LEGBARO_SHEET_TABLE, 8);
     sheet->turns = number_at(out + LEGBARO_SHEET_TURNS, 8);
     sheet->least = number_at(out + LEGBARO_SHEET_LEAST, 8);

@@ -15,8 +15,8 @@
 
 /* ---- Words ---- */
 
-/* The numbers, from 1, of what is in one of some states, as in 3,7-9, among `count` from `from` on; an empty
- * text for none. */
+/* The numbers, from 1, of what is in one of some states, as in 3,7-9, among `count` from `from` on;
+ * an empty text for none. */
 static const char *list_of(const uint8_t *states, uint64_t from, uint64_t count, unsigned any_of)
 {
     char *bytes = NULL;
@@ -29,7 +29,8 @@ static const char *list_of(const uint8_t *states, uint64_t from, uint64_t count,
             continue;
         for (first = i++; i < from + count && states[i] & any_of;)
             i++;
-        fprintf(f, i - first > 1 ? "%s%" PRIu64 "-%" PRIu64 : "%s%" PRIu64, ftell(f) ? "," : "", first + 1, i);
+        fprintf(f, i - first > 1 ? "%s%" PRIu64 "-%" PRIu64 : "%s%" PRIu64, ftell(f) ? "," : "",
+                first + 1, i);
     }
     fclose(f);
     const char *list = text("%s", bytes);
@@ -44,10 +45,12 @@ static const char *listed(const char *noun, const char *list)
 }
 
 /* Two lists of blocks and of parity blocks, either of which may be empty, and a verb. */
-static const char *both_listed(const char *blocks, const char *parity, const char *is, const char *are)
+static const char *both_listed(const char *blocks, const char *parity, const char *is,
+                               const char *are)
 {
     const char *and = *blocks && *parity ? " and " : "";
-    const char *words = text("%s%s%s", *blocks ? listed("block", blocks) : "", and, *parity ? listed("parity block", parity) : "");
+    const char *words = text("%s%s%s", *blocks ? listed("block", blocks) : "", and,
+                             *parity ? listed("parity block", parity) : "");
     return text("%s %s", words, *and || strpbrk(words, ",-") ? are : is);
 }
 
@@ -61,9 +64,11 @@ static void tell_missing(const struct groups *g)
     field_text("missing", blocks);
     field_text("missing-parity", parity);
     if (*blocks)
-        say("%s is cut: %s, and counted as lost", g->o->words[0], both_listed(blocks, "", "is missing", "are missing"));
+        say("%s is cut: %s, and counted as lost", g->o->words[0],
+            both_listed(blocks, "", "is missing", "are missing"));
     if (*parity)
-        say("%s is cut: %s, and counted as lost", g->o->words[1], both_listed("", parity, "is missing", "are missing"));
+        say("%s is cut: %s, and counted as lost", g->o->words[1],
+            both_listed("", parity, "is missing", "are missing"));
 }
 
 /* Refuses a group with the library's code. */
@@ -83,7 +88,8 @@ int run_parity_encode(const struct options *o)
     for (uint64_t i = 0; i < g.count; i++) {
         struct bytes data = {g.file.at + i * g.data * g.bytes, data_of(&g, i) * g.bytes};
         struct bytes parity = {all.at + i * g.parity * g.bytes, g.parity * g.bytes};
-        uint64_t result = legbaro_parity_encode(g.bytes, data_of(&g, i), g.parity, LENT(data), LENT(parity));
+        uint64_t result =
+            legbaro_parity_encode(g.bytes, data_of(&g, i), g.parity, LENT(data), LENT(parity));
         if (result != LEGBARO_OK)
             refuse_group(&g, i, result);
     }
@@ -92,7 +98,8 @@ int run_parity_encode(const struct options *o)
     field("blocks", g.blocks);
     field("parity", g.count * g.parity);
     field_text("file", o->out);
-    say("%s in %s, with %s for each: a group can lose any %" PRIu64 " of its blocks and parity blocks",
+    say("%s in %s, with %s for each: a group can lose any %" PRIu64
+        " of its blocks and parity blocks",
         counted(g.blocks, "block", "blocks"), counted(g.count, "group", "groups"),
         counted(g.parity, "parity block", "parity blocks"), g.parity);
     return ended(DONE);
@@ -100,8 +107,8 @@ int run_parity_encode(const struct options *o)
 
 /* ---- Checking ---- */
 
-/* What a check has found so far: how many groups do not agree, can't be rebuilt, could not be checked, and
- * of how many it was said; which do not agree although no block can be named. */
+/* What a check has found so far: how many groups do not agree, can't be rebuilt, could not be
+ * checked, and of how many it was said; which do not agree although no block can be named. */
 struct found {
     uint64_t differ, beyond, unchecked, told;
     uint8_t *unknown;
@@ -122,9 +129,10 @@ static void tell_group(const struct groups *g, struct found *found, uint64_t num
 {
     if (found->told++ >= MOST_TOLD)
         return;
-    const char *why = beyond                  ? "more blocks are missing than it has parity blocks"
-                      : found->unknown[number] ? "the blocks do not agree, and which are wrong can't be known"
-                                               : wrong_words(g, number);
+    const char *why = beyond ? "more blocks are missing than it has parity blocks"
+                      : found->unknown[number]
+                          ? "the blocks do not agree, and which are wrong can't be known"
+                          : wrong_words(g, number);
     say("group %" PRIu64 " (%s): %s", number + 1, group_words(g, number), why);
 }
 
@@ -146,21 +154,25 @@ static void check_group(const struct groups *g, struct group *group, struct foun
 
 static const char *const if_changed = "If a block was changed after encoding, encode again.";
 
-/* What to do where a group does not agree and no block can be named; whether it is the last group. */
+/* What to do where a group, perhaps the last, does not agree and no block can be named. */
 static const char *unknown_next(const struct groups *g, int last)
 {
     uint64_t before = last ? blocks_before_cut(g) : 0;
     if (before)
-        return text("The last group agrees if %s is cut and had %" PRIu64 " blocks: give --blocks %" PRIu64 ".", g->o->words[0],
-                    before, before);
-    return text("%s Otherwise find out which blocks are wrong, from copies or dates, and give them with --lost.%s", if_changed,
-                !last                      ? ""
-                : g->o->blocks == UNTOLD ? " If the file is cut, give --blocks, the number of blocks that it had."
-                                         : " Look whether --blocks is the number of blocks that the file had.");
+        return text("The last group agrees if %s is cut and had %" PRIu64
+                    " blocks: give --blocks %" PRIu64 ".",
+                    g->o->words[0], before, before);
+    return text("%s Otherwise find out which blocks are wrong, from copies or dates, and give them "
+                "with --lost.%s",
+                if_changed,
+                !last ? ""
+                : g->o->blocks == UNTOLD
+                    ? " If the file is cut, give --blocks, the number of blocks that it had."
+                    : " Look whether --blocks is the number of blocks that the file had.");
 }
 
-/* What to do where the blocks that do not agree are named: to rebuild without them, and without those that
- * were given as lost. Parity comes back by encoding. */
+/* What to do where the blocks that do not agree are named: to rebuild without them, and without
+ * those that were given as lost. Parity comes back by encoding. */
 static const char *named_next(const struct groups *g)
 {
     const char *blocks = list_of(g->states, 0, g->blocks, WRONG | LOST);
@@ -206,14 +218,17 @@ static int tell_found(const struct groups *g, const struct found *found)
     field_text("groups-unknown", list_of(found->unknown, 0, g->count, WRONG));
     tell_wrong(g);
     if (whole && !bad) {
-        say("%s and %s agree", counted(g->blocks, "block", "blocks"), counted(parity, "parity block", "parity blocks"));
+        say("%s and %s agree", counted(g->blocks, "block", "blocks"),
+            counted(parity, "parity block", "parity blocks"));
         return 1;
     }
     if (found->told > MOST_TOLD)
         say("and %s more", counted(found->told - MOST_TOLD, "group", "groups"));
-    say("%" PRIu64 " of %s agree", g->count - bad - found->unchecked, counted(g->count, "group", "groups"));
+    say("%" PRIu64 " of %s agree", g->count - bad - found->unchecked,
+        counted(g->count, "group", "groups"));
     if (found->unchecked)
-        say("%s can't be checked: no parity block is left over", counted(found->unchecked, "group", "groups"));
+        say("%s can't be checked: no parity block is left over",
+            counted(found->unchecked, "group", "groups"));
     field_text("next", check_next(g, found));
     say("next: %s", check_next(g, found));
     return 0;
@@ -241,14 +256,16 @@ static void read_range(const char *option, const char *item, uint64_t *from, uin
     if (last)
         *last++ = 0;
     if (!read_number(first, from) || !read_number(last ? last : first, to) || *to < *from)
-        refuse(WRONG_USE, "Write it as in 17,30-34.", "%s: '%s' is neither a number nor a range that rises", option, item);
+        refuse(WRONG_USE, "Write it as in 17,30-34.",
+               "%s: '%s' is neither a number nor a range that rises", option, item);
 }
 
 static void refuse_lost(const char *option, const char *what)
 {
     about(option);
     field("code", LEGBARO_BAD_GROUP);
-    refuse(TURNED_AWAY, "Give the number of each lost block once.", "%s: %s (code %d)", option, what, LEGBARO_BAD_GROUP);
+    refuse(TURNED_AWAY, "Give the number of each lost block once.", "%s: %s (code %d)", option,
+           what, LEGBARO_BAD_GROUP);
 }
 
 /* Takes blocks as lost: numbers and ranges with commas between them. */
@@ -260,7 +277,8 @@ static void read_lost(const char *option, const char *list, uint8_t *states, uin
         *end = 0;
         read_range(option, at, &from, &to);
         if (!from || to > most)
-            refuse_lost(option, text("there is no block %" PRIu64 ", but 1 to %" PRIu64, from ? to : from, most));
+            refuse_lost(option, text("there is no block %" PRIu64 ", but 1 to %" PRIu64,
+                                     from ? to : from, most));
         for (uint64_t i = from - 1; i < to; i++) {
             if (states[i] & LOST)
                 refuse_lost(option, text("block %" PRIu64 " is given twice", i + 1));
@@ -276,21 +294,28 @@ static void refuse_wrong(const struct groups *g, struct group *group)
     const char *next = found ? named_next(g) : unknown_next(g, group->number == g->count - 1);
     field("group", group->number + 1);
     tell_wrong(g);
-    refuse(REJECTED, next, "group %" PRIu64 " (%s): %s; nothing is written", group->number + 1, group_words(g, group->number),
-           found ? wrong_words(g, group->number) : "the blocks that are left do not agree, and which are wrong can't be known");
+    refuse(REJECTED, next, "group %" PRIu64 " (%s): %s; nothing is written", group->number + 1,
+           group_words(g, group->number),
+           found ? wrong_words(g, group->number)
+                 : "the blocks that are left do not agree, and which are wrong can't be known");
 }
 
-/* Ends the program where blocks of the last group are missing, and no parity block is left over: with a
- * wrong --blocks these would be made wrong. Who gives them as lost too stands for the number. */
+/* Ends the program where blocks of the last group are missing, and no parity block is left over:
+ * with a wrong --blocks these would be made wrong. Who gives them as lost too stands for the
+ * number. */
 static void refuse_unsure(const struct groups *g, const struct group *group)
 {
     uint8_t *first = g->states + group->number * g->data;
-    if (group->number != g->count - 1 || group->lost < g->parity || !memchr(first, MISSING, group->data))
+    if (group->number != g->count - 1 || group->lost < g->parity ||
+        !memchr(first, MISSING, group->data))
         return;
     const char *missing = list_of(g->states, 0, g->blocks, MISSING | LOST);
     about(g->o->words[0]);
-    refuse(TURNED_AWAY, text("If it had %s for certain, give --lost %s too.", counted(g->blocks, "block", "blocks"), missing),
-           "no parity block is left over to check the last group, and so the number of blocks that %s had; nothing is written",
+    refuse(TURNED_AWAY,
+           text("If it had %s for certain, give --lost %s too.",
+                counted(g->blocks, "block", "blocks"), missing),
+           "no parity block is left over to check the last group, and so the number of blocks that "
+           "%s had; nothing is written",
            g->o->words[0]);
 }
 
@@ -311,10 +336,12 @@ static void tell_rebuilt(const struct groups *g, uint64_t rebuilt, uint64_t unch
     field("groups", rebuilt);
     field("groups-unchecked", unchecked);
     field_text("file", g->o->out);
-    say("%s has all %s; %" PRIu64 " of %s %s rebuilt", g->o->out, counted(g->blocks, "block", "blocks"), rebuilt,
-        counted(g->count, "group", "groups"), rebuilt == 1 ? "was" : "were");
+    say("%s has all %s; %" PRIu64 " of %s %s rebuilt", g->o->out,
+        counted(g->blocks, "block", "blocks"), rebuilt, counted(g->count, "group", "groups"),
+        rebuilt == 1 ? "was" : "were");
     if (unchecked)
-        say("%s could not be checked, since no parity block is left over: compare or audit the file before you rely on it",
+        say("%s could not be checked, since no parity block is left over: compare or audit the "
+            "file before you rely on it",
             counted(unchecked, "group", "groups"));
 }
 

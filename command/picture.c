@@ -20,6 +20,10 @@ static const char *const planned_colour = "#d55e00";
 
 static const char *const positions_axis = "r, positions that an audit draws (number of rows)";
 
+/* What the file has within its first bytes. */
+enum { NEAR = 512 };
+static const char title[] = "<title>Risk and reading of an audit</title>\n";
+
 /* One curve: the number that it is for, and the last x that it has a value for. Behind that the value is 0. */
 struct curve {
     uint64_t number, last;
@@ -327,8 +331,8 @@ static void draw(FILE *f, const struct numbers *of)
             "<svg xmlns=\"http://www.w3.org/2000/svg\" width=\"%d\" height=\"%d\" viewBox=\"0 0 %d %d\" font-family=\"sans-serif\" "
             "font-size=\"15\" style=\"max-width:100%%;height:auto\">\n",
             WIDTH, HEIGHT, WIDTH, HEIGHT);
-    fputs("<title>Risk and reading of an audit</title>\n"
-          "<style>.grid{stroke:#ddd}.frame{fill:none;stroke:#444}.title{font-weight:bold}.head{font-size:24px;font-weight:bold}"
+    fputs(title, f);
+    fputs("<style>.grid{stroke:#ddd}.frame{fill:none;stroke:#444}.title{font-weight:bold}.head{font-size:24px;font-weight:bold}"
           ".dot{fill:#000;stroke:#fff;stroke-width:1.5}</style>\n"
           "<rect width=\"100%\" height=\"100%\" fill=\"#fff\"/>\n",
           f);
@@ -342,11 +346,13 @@ static void draw(FILE *f, const struct numbers *of)
     fputs("</svg>\n", f);
 }
 
-/* Whether bytes are a picture that this program made: it begins as this one does. */
+/* Whether bytes are a picture that this program made: the title stands near their start. */
 static int is_picture(struct bytes bytes)
 {
-    static const char first[] = "<svg xmlns=\"http://www.w3.org/2000/svg\" width=\"1460\" ";
-    return bytes.length >= sizeof first - 1 && !memcmp(bytes.at, first, sizeof first - 1);
+    static const char first[] = "<svg xmlns=";
+    size_t start = bytes.length < NEAR ? bytes.length : NEAR;
+    return start >= sizeof first - 1 && !memcmp(bytes.at, first, sizeof first - 1) &&
+           memmem(bytes.at, start, title, sizeof title - 1);
 }
 
 void write_picture(const struct options *o, const struct numbers *of)

@@ -34,7 +34,8 @@ static void read_time(struct plan *plan, const char *at)
     static const char form[] = "dddd-dd-ddTdd:dd";
     unsigned year = 0, month = 0, day = 0, hour = 0, minute = HOUR;
     size_t like = 0;
-    while (form[like] && (form[like] == 'd' ? isdigit((unsigned char)at[like]) : at[like] == form[like]))
+    while (form[like] &&
+           (form[like] == 'd' ? isdigit((unsigned char)at[like]) : at[like] == form[like]))
         like++;
     if (!form[like] && !at[like])
         sscanf(at, "%4u-%2u-%2uT%2u:%2u", &year, &month, &day, &hour, &minute);
@@ -107,17 +108,20 @@ static unsigned read_minute(const char **at)
 static void refuse_whole_day(const struct reading *r, unsigned opens, unsigned shuts)
 {
     unsigned nearest = (opens + LEGBARO_DAY_MINUTES - 1) % LEGBARO_DAY_MINUTES;
-    const char *next = text("Write %02u:%02u-%02u:%02u, which is one minute shorter. A folder without a "
-                            "plan allows every minute. For a day without a window write no line.",
-                            opens / HOUR, opens % HOUR, nearest / HOUR, nearest % HOUR);
-    const char *what = text("its window, %02u:%02u-%02u:%02u, is a whole day, and a window has at most "
-                            "1,439 minutes",
-                            opens / HOUR, opens % HOUR, shuts / HOUR, shuts % HOUR);
+    const char *next =
+        text("Write %02u:%02u-%02u:%02u, which is one minute shorter. A folder without a "
+             "plan allows every minute. For a day without a window write no line.",
+             opens / HOUR, opens % HOUR, nearest / HOUR, nearest % HOUR);
+    const char *what =
+        text("its window, %02u:%02u-%02u:%02u, is a whole day, and a window has at most "
+             "1,439 minutes",
+             opens / HOUR, opens % HOUR, shuts / HOUR, shuts % HOUR);
     bad_line(r, next, what);
 }
 
 /* The window of a line: the minute at which it opens and the one at which it shuts, 0 for 24:00. */
-static void read_window(const struct reading *r, const char *window, unsigned *opens, unsigned *shuts)
+static void read_window(const struct reading *r, const char *window, unsigned *opens,
+                        unsigned *shuts)
 {
     const char *at = window;
     *opens = read_minute(&at);
@@ -165,13 +169,16 @@ static void read_lines(struct plan *plan)
 {
     struct bytes file = read_small(plan->path, MOST_TEXT_BYTES, "a plan");
     struct reading r = {plan, 0, {0}};
+    char *lines = (char *)room(file.length + 1).at;
+    memcpy(lines, file.at, file.length);
     for (size_t at = 0, length; at < file.length; at += length + 1) {
-        const uint8_t *end = memchr(file.at + at, '\n', file.length - at);
-        length = (end ? (size_t)(end - file.at) : file.length) - at;
+        const char *end = memchr(lines + at, '\n', file.length - at);
+        length = (end ? (size_t)(end - lines) : file.length) - at;
+        lines[at + length] = 0;
         r.line++;
-        if (memchr(file.at + at, 0, length))
+        if (strlen(lines + at) < length)
             bad_line(&r, "A plan is a text: write it again with an editor.", "it has a NUL byte");
-        read_line(&r, text("%.*s", (int)length, (const char *)file.at + at));
+        read_line(&r, lines + at);
     }
 }
 
@@ -181,14 +188,17 @@ static void allow_now(struct plan *plan)
     if (plan->minute < LEGBARO_DAY_MINUTES)
         for (int day = 0; day < DAYS; day++) {
             put_number(plan->bytes + day * WINDOW_BYTES, 2, plan->minute);
-            put_number(plan->bytes + day * WINDOW_BYTES + 2, 2, (plan->minute + 1) % LEGBARO_DAY_MINUTES);
+            put_number(plan->bytes + day * WINDOW_BYTES + 2, 2,
+                       (plan->minute + 1) % LEGBARO_DAY_MINUTES);
         }
 }
 
 struct plan read_plan(const struct options *o)
 {
     const char *in_folder = path_in(o->folder, "plan");
-    struct plan plan = {.path = o->plan ? o->plan : access(in_folder, F_OK) == 0 ? in_folder : NULL};
+    struct plan plan = {.path = o->plan                        ? o->plan
+                                : access(in_folder, F_OK) == 0 ? in_folder
+                                                               : NULL};
     if (o->at)
         read_time(&plan, o->at);
     else
@@ -202,5 +212,6 @@ struct plan read_plan(const struct options *o)
 
 const char *wait_words(uint64_t minutes)
 {
-    return minutes < HOUR ? text("%" PRIu64 " min", minutes) : text("%" PRIu64 " h %02" PRIu64 " min", minutes / HOUR, minutes % HOUR);
+    return minutes < HOUR ? text("%" PRIu64 " min", minutes)
+                          : text("%" PRIu64 " h %02" PRIu64 " min", minutes / HOUR, minutes % HOUR);
 }

@@ -125,7 +125,8 @@ void progress_over(void)
 
 /* ---- Tokens ---- */
 
-/* How many records are sealed, of which so many were before: they are sealed one after the other. */
+/* How many records are sealed, of which so many were before: they are sealed one after the other.
+ */
 static uint64_t sealed(const struct watch *watch, uint64_t before)
 {
     uint64_t last = watch->table.length / LEGBARO_RECORD_BYTES, done = before;

@@ -58,6 +58,11 @@ void decided(const char *what_stands)
     stands = what_stands;
 }
 
+int is_decided(void)
+{
+    return stands != NULL;
+}
+
 void say(const char *format, ...)
 {
     va_list values;

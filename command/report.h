@@ -53,6 +53,7 @@ int ended(enum status status);
 
 /* What can no longer be undone is told in the place of 'Nothing has changed.' when a file can't be written from now on. */
 void decided(const char *what_stands);
+int is_decided(void);
 
 /* What a refusal is about, a file or an option: the field `about` of the object. */
 void about(const char *file);

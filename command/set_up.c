@@ -110,6 +110,8 @@ static void store_all(const struct folder *folder, const struct set_up *s)
     refuse_second(folder, s);
     prepare(folder, "change", 0600, change_pieces(&change), CHANGE_PIECES);
     prepare_card(&owner);
+    decided("No file is set up: mend what is wrong, and run the command again.");
+    place_checksum(folder);
     list_id(key_path(s->o), s->id);
     place_card(&owner);
 }

@@ -84,7 +84,7 @@ static void print_risks(const struct numbers *of)
     uint64_t down[] = {1, m / 8, m / 4, m / 2, m, 2 * m, 4 * m, 8 * m};
     int columns = positions_shown(of, across);
     int lines = sifted(down, sizeof down / sizeof *down, of->rows);
-    say("\n  Chance that a loss escapes one audit, at most: damaged rows down, positions across\n");
+    say("\n  Chance of escape in one audit, at most: damaged rows down, positions across\n");
     for (int i = -1; i < lines; i++) {
         const char *words = text("    %9s", i < 0 ? "" : grouped(down[i]));
         for (int k = 0; k < columns; k++)
@@ -146,9 +146,8 @@ int run_positions(const struct options *o)
     if (LEGBARO_CODE(result) != LEGBARO_OK)
         turn_away(result, text("--positions %" PRIu64 " of --blocks %" PRIu64 ", --rows %" PRIu64, o->positions, o->blocks, o->rows));
     field("positions", number);
-    say("set up with %s: an audit then draws so many of %s, and on average at least %" PRIu64 " of the %" PRIu64
-        " that have a block",
-        counted(number, "position", "positions"), counted(o->rows, "row", "rows"), o->positions, o->blocks);
+    say("set up with %s: with %s and %s an audit then looks at %s or more on average", counted(number, "position", "positions"),
+        counted(o->rows, "row", "rows"), counted(o->blocks, "block", "blocks"), counted(o->positions, "block", "blocks"));
     say("next: 'legbaro set-up --positions %" PRIu64 " --rows %" PRIu64 " ..'", number, o->rows);
     return ended(DONE);
 }

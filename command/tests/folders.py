@@ -20,10 +20,12 @@ REFUSED = frozenset((2, 3, 4))
 ENDS = ("stop", "torn", "power")
 ASIDE = re.compile(r"\.\d+$")
 OWNER_NAMES = {"card", "card.sum", "change", "message", "committed"}
-HOST_NAMES = {"blocks", "marks", "table", "stands", "reply", "applying"}
+HOST_NAMES = {"blocks", "marks", "table", "stands", "reply"}
+HALF = ("adding", "applying")  # files of a host that are there while a change is half in place
 # What the command before issue 38 lacks: refusals that leave every byte, of owner and host; the checksum of the card; the receipt of a commit;
-# `judge` that leaves a draw open, and --close; `draw --again`; `show` that settles; a change that supersedes a damaged `applying`.
-LACKS = ("owner", "host", "checksum", "receipt", "close", "again", "show", "supersede")
+# `judge` that leaves a draw open, and --close; `draw --again`; `show` that settles; a change that supersedes a damaged `applying`; outputs that
+# replace nothing else; the list of ids.
+LACKS = ("owner", "host", "checksum", "receipt", "close", "again", "show", "supersede", "outputs", "ids")
 FIRST_CALLS, MORE_CALLS, FIRST_DELAY = 6, 3, 0.002
 
 
@@ -86,7 +88,8 @@ class File:
     name: str
     set_up: tuple  # words of the set-up, and the owner after it
     owner: Owner = None
-    settled: bool = True
+    settled: bool = True  # the owner's folder, since the last kill
+    damaged: bool = False  # the host's folder, from outside
     stale: dict = field(default_factory=lambda: {"change": {None}, "message": {None}})
     hosts: list = field(default_factory=lambda: [book.Host()])
     sent: list = field(default_factory=list)  # changes that were issued, the newest last
@@ -102,7 +105,7 @@ class World:
     def __init__(self, runner, lacks):
         self.runner, self.lacks, self.root = runner, lacks, runner.root
         self.files, self.seen, self.checked, self.killed = [], {}, 0, 0
-        self.trace = []
+        self.trace, self.receipts, self.halves = [], [], []  # receipts and half applied changes that were seen
         self.key = None
         self.snap = {}
 
@@ -151,7 +154,7 @@ class World:
         self.checked, self.killed = self.checked + 1, self.killed + killed
         now = self.look()
         changed = sorted(name for name in before.keys() | now.keys() if before.get(name) != now.get(name))
-        need(now["keys/key"] == self.key, "the key has changed")
+        need(now.get("keys/key") == self.key and os.stat(self.path("keys/key")).st_mode & 0o777 == 0o600, "the key has changed")
         if not killed and status >= 2:
             lax = tuple(side for side in ("owner", "host") if side in self.lacks)
             need(not [name for name in changed if name.split("/")[1] not in lax], "a refused command changed", *changed)
@@ -222,11 +225,14 @@ class World:
         results = [(host,) + outcome(host) for host in f.hosts]
         status, killed = self.command(words, [f.host_at], way)
         if killed:
+            self.halves += [self.snap[f.host_at + "/applying"]] if f.host_at + "/applying" in self.snap else []
             f.hosts = distinct(f.hosts + [after for _, _, after in results])
             self.check_torn_host(f)
             return status, True
         fits = [(host, after) for host, statuses, after in results if status in statuses]
         need(fits, "status", status, "in place of", *sorted(set().union(*(statuses for _, statuses, _ in results))))
+        if status >= 2 and set(HALF) & self.names(f.host_at):
+            return status, False  # what is half in place was left so
         f.hosts = distinct([after if status < 2 else host for host, after in fits])
         if status < 2:
             f.hosts = [host for host in f.hosts if self.host_is(f, host)]
@@ -236,7 +242,7 @@ class World:
         return status, False
 
     def host_at_rest(self, f):
-        return not {name for name in self.names(f.host_at) if name == "applying" or name.endswith(".new")}
+        return not {name for name in self.names(f.host_at) if name in HALF or name.endswith(".new")}
 
     def host_differs(self, f, host):
         wants = {name: getattr(host, name) for name in ("stands", "blocks", "marks", "table", "reply")}

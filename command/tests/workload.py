@@ -104,6 +104,7 @@ class Workload:
         _, killed = self.w.owner_step(["-C", f.at, "commit"], [(f, after)], {DONE} if now.asked else REFUSED, self.way())
         if now.asked and not killed and "receipt" not in self.w.lacks:
             need(f.at + "/committed" in self.w.snap, "a commit left no receipt")
+            self.w.receipts.append(self.w.snap[f.at + "/committed"])
 
     def drop(self, f):
         now = f.owner.book
@@ -177,10 +178,13 @@ class Workload:
             return ({DONE}, replace(host, reply=reply)) if reply else (REFUSED, host)
         return self.w.host_step(f, ["-C", f.host_at, "prove", at + "/message"], outcome, self.way())
 
-    def receipt(self, f):
-        """The words by which a host says that an asked change is committed."""
-        path = f.at + "/committed"
-        return ["--committed", path] if path in self.w.snap else ["--committed"] if "receipt" in self.w.lacks else []
+    def receipt(self, f, stands):
+        """The words by which a host says that an asked change is committed; of one that is not, with the receipt of another."""
+        if "receipt" in self.w.lacks:
+            return ["--committed"] if stands else []
+        if not stands and self.w.receipts:
+            return ["--committed", self.w.write("sent/committed", self.dice.choice(self.w.receipts))]
+        return ["--committed", f.at + "/committed"] if stands else []
 
     def apply(self, f, check=False):
         """The owner's change as it is there, now and then an older one or a damaged one."""
@@ -195,13 +199,13 @@ class Workload:
         if damaged:
             path = self.w.write("sent/change", self.dice.choice((change.file()[:-1], flipped(change.file(), self.dice), b"")))
         stands = change is not None and change.counter <= now.ctr and change == f.owner.change
-        words = self.receipt(f) if change and change.asked and (stands or "receipt" not in self.w.lacks) and not check else []
+        words = self.receipt(f, stands) if change and change.asked and not check else []
 
         def outcome(host):
             if not change or damaged or (not host.header and change.header[4]):
                 return REFUSED, host
             if host.stands == change.stands():
-                return {DONE} | REFUSED if change.asked and not stands else {DONE}, host
+                return {DONE} | REFUSED if change.asked and not stands or f.damaged else {DONE}, host
             if not host.follows(change) or (change.asked and not check and not (stands and words)):
                 return REFUSED, host
             return {DONE} | (set() if host.header else REFUSED) if check else {DONE}, host if check else host.applied(change)
