@@ -17,11 +17,12 @@
 /* The most bytes of a journal from a pipe. */
 enum { MOST_PIPED_BYTES = 1 << 26 };
 
-/* A journal: its bytes, and the time of its first line, by which journals are ordered. */
+/* A journal: its bytes, how far it is read, and the line that comes next, unless it is over. */
 struct journal {
-    const char *path;
     struct bytes file;
-    time_t first;
+    size_t at;
+    struct line next;
+    int over;
 };
 
 struct logged {
@@ -33,19 +34,21 @@ struct logged {
 
 /* ---- Reading ---- */
 
-static time_t first_time(struct bytes file)
+/* Reads on to the next line that is whole, and counts those that are not. */
+static void read_next(struct logged *log, struct journal *journal)
 {
     const char *begin, *end;
-    struct line line;
-    for (size_t at = 0; next_line(&file, &at, &begin, &end);)
-        if (read_line(begin, end, &line))
-            return line.time;
-    return UNKNOWN_TIME;
+    while (next_line(&journal->file, &journal->at, &begin, &end)) {
+        if (read_line(begin, end, &journal->next))
+            return;
+        log->damaged += end > begin;
+    }
+    journal->over = 1;
 }
 
-static struct journal open_journal(const char *path)
+static struct journal open_journal(struct logged *log, const char *path)
 {
-    struct journal journal = {.path = path};
+    struct journal journal = {.at = 0};
     if (!strcmp(path, "-"))
         journal.file = read_small(path, MOST_PIPED_BYTES, "a journal");
     else if (!map_journal(path, &journal.file)) {
@@ -54,14 +57,19 @@ static struct journal open_journal(const char *path)
                    "can't read %s: it is no file", path);
         file_fault("read", path);
     }
-    journal.first = first_time(journal.file);
+    read_next(log, &journal);
     return journal;
 }
 
-static int by_first(const void *a, const void *b)
+/* The journal whose next line is the oldest; null where all are over. So the lines of one journal stay in
+ * their order, whatever their times are. */
+static struct journal *oldest(struct journal *journals, int count)
 {
-    const struct journal *one = a, *other = b;
-    return (one->first > other->first) - (one->first < other->first);
+    struct journal *found = NULL;
+    for (int i = 0; i < count; i++)
+        if (!journals[i].over && (!found || journals[i].next.time < found->next.time))
+            found = &journals[i];
+    return found;
 }
 
 /* ---- A line for people ---- */
@@ -121,17 +129,6 @@ static void show_line(struct logged *log, const struct line *line)
     fprintf(log->list, "%s%s", log->shown > 1 ? ", " : "", json_of_line(line));
 }
 
-static void show_journal(struct logged *log, const struct journal *journal)
-{
-    const char *begin, *end;
-    struct line line;
-    for (size_t at = 0; next_line(&journal->file, &at, &begin, &end);)
-        if (read_line(begin, end, &line))
-            show_line(log, &line);
-        else if (end > begin)
-            log->damaged++;
-}
-
 static void tell_rest(const struct logged *log)
 {
     field("lines", log->shown);
@@ -159,10 +156,9 @@ int run_log(const struct options *o)
     if (o->since)
         log.since = read_local(o->since, "--since");
     for (int i = 0; i < count; i++)
-        journals[i] = open_journal(paths[i]);
-    qsort(journals, (size_t)count, sizeof *journals, by_first);
-    for (int i = 0; i < count; i++)
-        show_journal(&log, &journals[i]);
+        journals[i] = open_journal(&log, paths[i]);
+    for (struct journal *next; (next = oldest(journals, count)); read_next(&log, next))
+        show_line(&log, &next->next);
     tell_rest(&log);
     fclose(log.list);
     field_list("journal", text("[%s]", bytes));
