@@ -8,9 +8,7 @@
 
 /* ---- What each option means ---- */
 
-static const struct meaning {
-    const char *option, *value, *meaning;
-} meanings[] = {
+static const struct meaning meanings[] = {
     {"C", "FOLDER", "the owner's or the host's folder; default: the current one"},
     {"json", "", "print one JSON object for programs"},
     {"quiet", "", "print nothing but refusals; -q is the same"},
@@ -47,13 +45,13 @@ static const struct meaning {
     {"since", "DATE", "from a date on, as in 2026-11-01 or 2026-11-01T08:00"},
     {"audits", "", "verdicts alone"},
     {"every", "DAYS", "an audit is overdue when the last accepted one is older"},
-    {"table", "", "print the commands and options for programs"},
+    {"complete", "", "print what may come in the place of the last word, for shells"},
 };
 enum { MEANINGS = sizeof meanings / sizeof *meanings };
 
 static const char *const common[] = {"C", "json", "quiet", "verbose", "help", NULL};
 
-static const struct meaning *meaning_of(const char *option, size_t length)
+const struct meaning *meaning_of(const char *option, size_t length)
 {
     static const struct meaning none = {"", "", ""};
     for (int i = 0; i < MEANINGS; i++)
@@ -62,17 +60,14 @@ static const struct meaning *meaning_of(const char *option, size_t length)
     return &none;
 }
 
-/* Calls something for each option of a command, those that every command has last. */
-static void each_option(const struct command *command,
-                        void (*call)(const struct command *, const char *, const struct meaning *))
+void each_option(const struct command *command, void (*call)(const char *, const struct meaning *))
 {
     for (const char *at = command->options; at[1]; at = strchr(at + 1, ' ')) {
         size_t length = strcspn(at + 1, " ");
-        call(command, text("--%.*s", (int)length, at + 1), meaning_of(at + 1, length));
+        call(text("--%.*s", (int)length, at + 1), meaning_of(at + 1, length));
     }
     for (int i = 0; common[i]; i++)
-        call(command, text("%s%s", common[i][1] ? "--" : "-", common[i]),
-             meaning_of(common[i], strlen(common[i])));
+        call(text("%s%s", common[i][1] ? "--" : "-", common[i]), meaning_of(common[i], strlen(common[i])));
 }
 
 /* ---- For people ---- */
@@ -112,9 +107,8 @@ void help_all(const struct commands *commands)
          "2 refused, 3 wrong use, 4 a file can't be read or written.");
 }
 
-static void print_option(const struct command *command, const char *option, const struct meaning *meaning)
+static void print_option(const char *option, const struct meaning *meaning)
 {
-    (void)command;
     printf("  %-24s %s\n", text("%s %s", option, meaning->value), meaning->meaning);
 }
 
@@ -126,22 +120,6 @@ void help_one(const struct command *command)
     puts("\nOptions may come before or after the command. -C names the folder of the files that a command\n"
          "keeps; other words are relative to the current folder. '-' is standard input where a small file\n"
          "is read. The manual is legbaro(1).");
-}
-
-/* ---- For programs ---- */
-
-static void print_row(const struct command *command, const char *option, const struct meaning *meaning)
-{
-    printf("%s\t%s\t%s\t%s\n", command->name, option, meaning->value, meaning->meaning);
-}
-
-void help_table(const struct commands *commands)
-{
-    for (int i = 0; i < commands->count; i++) {
-        const struct command *command = &commands->all[i];
-        printf("%s\t-\t%s\t%s\n", command->name, command->words, command->purpose);
-        each_option(command, print_row);
-    }
 }
 
 /* ---- Names ---- */

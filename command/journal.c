@@ -191,6 +191,17 @@ int is_journal_unsettled(const struct folder *folder)
     return is_in(folder, beside);
 }
 
+/* Removes journal.new. One that stays is of a line that is stored, and the next command removes it. */
+static void remove_prepared(const struct folder *folder)
+{
+    int result;
+    do
+        result = unlinkat(folder->at, beside, 0);
+    while (result != 0 && errno == EINTR);
+    if (result != 0 && errno != ENOENT)
+        say_fault(folder, beside);
+}
+
 /* The line of journal.new, where that is of what stands; else null. */
 static const char *prepared_line(const struct folder *folder, const struct standing *now)
 {
@@ -223,8 +234,8 @@ void settle_journal(const struct folder *folder, const struct standing *now, con
         line = prepared_line(folder, now);
     if (!stored)
         stored = append(folder, now, &tail, line ? line : made_line(folder, now, tail.there));
-    if (stored && is_in(folder, beside) && unlinkat(folder->at, beside, 0) != 0)
-        say_fault(folder, beside);
+    if (stored && is_in(folder, beside))
+        remove_prepared(folder);
 }
 
 void add_line(const struct folder *folder, const struct entry *entry, const struct standing *now)

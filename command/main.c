@@ -54,7 +54,7 @@ static const struct command commands[] = {
     {"parity check", " block-bytes data parity blocks ", 2, 2, "BLOCKS PARITY", "whether blocks and parity agree", run_parity_check},
     {"parity rebuild", " block-bytes data parity blocks lost lost-parity out force ", 2, 2, "BLOCKS PARITY", "lost blocks from the others",
      run_parity_rebuild},
-    {"help", " table ", 0, 2, "[COMMAND]", "all commands, or the options of one", run_help},
+    {"help", " complete ", 0, MOST_WORDS, "[COMMAND]", "all commands, or the options of one", run_help},
 };
 
 static const struct commands all = {commands, sizeof commands / sizeof *commands};
@@ -103,12 +103,12 @@ static void refuse_command(const char *first, const char *second)
 
 int run_help(const struct options *o)
 {
-    const char *name = o->count == 2 ? text("%s %s", o->words[0], o->words[1]) : o->words[0];
-    if (o->table)
-        help_table(&all);
+    const char *name = o->count > 1 ? text("%s %s", o->words[0], o->words[1]) : o->words[0];
+    if (o->complete)
+        complete_words(&all, o->count, o->words);
     else if (!o->count)
         help_all(&all);
-    else if (command_of(&all, name))
+    else if (o->count <= 2 && command_of(&all, name))
         help_one(command_of(&all, name));
     else
         refuse_command(name, NULL);

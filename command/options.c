@@ -49,7 +49,7 @@ static const struct option {
     {"html", TEXT, offsetof(struct options, html)},
     {"every", NUMBER, offsetof(struct options, every)},
     {"audits", FLAG, offsetof(struct options, audits)},
-    {"table", FLAG, offsetof(struct options, table)},
+    {"complete", FLAG, offsetof(struct options, complete)},
     {"quiet", FLAG, offsetof(struct options, quiet)},
     {"verbose", FLAG, offsetof(struct options, verbose)},
 };

@@ -14,7 +14,7 @@ struct options {
     uint64_t role, version, mark, block_bytes, rows, positions, tokens, blocks, damaged, data, parity;
     uint64_t json, progress, check, force, again, close;
     const char *since, *html;
-    uint64_t every, audits, table, quiet, verbose;
+    uint64_t every, audits, complete, quiet, verbose;
     int asked; /* the command begins with 'ask' */
     char **words;
     int count;
