@@ -43,7 +43,7 @@ static void put_row(struct table *table, const struct look *look)
 static void say_table(const struct look *looks, int count)
 {
     static const char *const heads[] = {" ",         "FILE",   "BLOCKS",    "LEFT", "LAST AUDIT",
-                                        "OPEN SINCE", "DRAW", "FOLDER", "WHAT TO DO"};
+                                        "OPEN SINCE", "NEXT DRAW", "FOLDER", "WHAT TO DO"};
     struct table table = new_table(sizeof heads / sizeof *heads);
     table.right = 1u << 2 | 1u << 3;
     for (int i = 0; i < table.columns; i++)
