@@ -89,6 +89,11 @@ static const char *group_at(const char *name)
     return NULL;
 }
 
+static void print_command(const struct command *command)
+{
+    printf("  %-15s %-15s %s\n", command->name, command->words, command->purpose);
+}
+
 void help_all(const struct commands *commands)
 {
     puts("usage: legbaro [OPTION..] COMMAND [WORD..]");
@@ -97,7 +102,7 @@ void help_all(const struct commands *commands)
         const char *group = group_at(command->name);
         if (group)
             printf("\n%s\n", group);
-        printf("  %-15s %-15s %s\n", command->name, command->words, command->purpose);
+        print_command(command);
     }
     puts("\n'legbaro help COMMAND' prints a command's options. Every command takes -C FOLDER, the owner's or\n"
          "the host's folder; other words are relative to the current folder. The manual is legbaro(1).\n\n"
@@ -105,6 +110,17 @@ void help_all(const struct commands *commands)
          "owner's folders of the three. With '--every 7' a centre without an audit for a week does too.\n\n"
          "Exit status: 0 done or accepted, 1 rejected, in need of attention, or parity that does not agree,\n"
          "2 refused, 3 wrong use, 4 a file can't be read or written.");
+}
+
+int help_family(const struct commands *commands, const char *first)
+{
+    int found = 0;
+    for (int i = 0; i < commands->count; i++)
+        if (!strncmp(commands->all[i].name, text("%s ", first), strlen(first) + 1)) {
+            print_command(&commands->all[i]);
+            found++;
+        }
+    return found;
 }
 
 static void print_option(const char *option, const struct meaning *meaning)

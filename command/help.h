@@ -27,6 +27,9 @@ void each_option(const struct command *command, void (*call)(const char *, const
 void help_all(const struct commands *commands);
 void help_one(const struct command *command);
 
+/* Prints the commands whose first word is this one, of two; returns how many there are. */
+int help_family(const struct commands *commands, const char *first);
+
 /* Prints what may come in the place of the last of some words, for the completion of a shell: on a line
  * each, with a tab and what it means; or ":files" or ":folders", which the shell completes itself. */
 void complete_words(const struct commands *commands, int count, char **words);

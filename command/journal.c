@@ -134,10 +134,13 @@ static int is_of(const struct line *line, const struct standing *now)
 
 /* ---- Appending ---- */
 
+/* Says once in a run that a journal can't be written, and why by errno. */
 static void say_fault(const struct folder *folder, const char *file)
 {
-    note("can't write %s: %s. The command is done, and its line may be missing there",
-         path_in(folder->path, file), strerror(errno));
+    static int said;
+    if (!said++)
+        note("can't write %s: %s. The command goes on, and a line may be missing there",
+             path_in(folder->path, file), strerror(errno));
 }
 
 /* Opens the journal; makes it where it is missing. Returns -1 where it can't, or where it is no file. */
@@ -216,14 +219,16 @@ static const char *prepared_line(const struct folder *folder, const struct stand
     return whole && is_of(&line, now) ? found : NULL;
 }
 
-/* A line that is made from what stands, where the one of the last command is gone. */
-static const char *made_line(const struct folder *folder, const struct standing *now, int there)
+/* Appends a line that is made from what stands, where the one of the last command is gone. */
+static int append_made(const struct folder *folder, const struct standing *now, const struct tail *tail)
 {
-    const struct entry entry = {.command = there ? "mended" : "begun"};
-    note(there ? "the last line of %s is missing or damaged: one is made from what stands"
-               : "%s is missing: a new one begins",
+    const struct entry entry = {.command = tail->there ? "mended" : "begun"};
+    if (!append(folder, now, tail, line_of(&entry, now)))
+        return 0;
+    note(tail->there ? "the last line of %s was missing or damaged: one is made from what stands"
+                     : "%s was missing: a new one begins",
          path_in(folder->path, name));
-    return line_of(&entry, now);
+    return 1;
 }
 
 void settle_journal(const struct folder *folder, const struct standing *now, const char *line)
@@ -233,7 +238,7 @@ void settle_journal(const struct folder *folder, const struct standing *now, con
     if (!stored && !line)
         line = prepared_line(folder, now);
     if (!stored)
-        stored = append(folder, now, &tail, line ? line : made_line(folder, now, tail.there));
+        stored = line ? append(folder, now, &tail, line) : append_made(folder, now, &tail);
     if (stored && is_in(folder, beside))
         remove_prepared(folder);
 }

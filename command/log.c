@@ -100,11 +100,11 @@ static void say_line(const struct line *line, time_t now)
     strftime(when, sizeof when, "%Y-%m-%d %H:%M:%S %Z", &local);
     const char *totals =
         spoken() == VERBOSE ? text(" %9s %9s", told(line->turns), told(line->hashes)) : "";
-    const char *words = remark(line), *future = line->time > now ? " (in the future)" : "";
-    say("%s  %-10s %-8s %-8s %7s %9s %6s %6s%s%s%s%s", when, line->command,
+    const char *words = text("%s%s", remark(line), line->time > now ? " (in the future)" : "");
+    say("%s  %-10s %-8s %-8s %7s %9s %6s %6s%s%s%s", when, line->command,
         *line->role ? line->role : "-", *line->id ? line->id : "-", told(line->counter),
-        told(line->blocks), told(line->token), told(line->left), totals, *words || *future ? "  " : "",
-        words, future);
+        told(line->blocks), told(line->token), told(line->left), totals, *words ? "  " : "",
+        words + (*words == ' '));
 }
 
 static void say_head(time_t now)

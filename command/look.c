@@ -63,11 +63,16 @@ static void note_line(struct look *look, const struct line *line)
         look->since = line->time;
 }
 
+/* Whether a token was drawn and judged, by the card. */
+static int is_judged(const struct look *look)
+{
+    return look->left + (look->open ? 1 : 0) < look->tokens;
+}
+
 static int is_found(const struct look *look)
 {
     int begun = look->since != UNKNOWN_TIME || (!look->open && !look->pending);
-    int drawn = look->left + (look->open ? 1 : 0) < look->tokens;
-    return begun && (!drawn || look->accepted != UNKNOWN_TIME);
+    return begun && (!is_judged(look) || look->accepted != UNKNOWN_TIME);
 }
 
 /* Whether a line may have what is looked for, before it is read whole: draws and verdicts have a token. */
@@ -120,6 +125,7 @@ static void take_card(void *lent)
     struct look *look = t->look;
     struct bytes card = card_in(t);
     struct standing now = standing_of_card(card);
+    look->is_known = 1;
     look->id = id_words(now.id);
     look->blocks = now.blocks;
     look->counter = now.counter;
@@ -207,7 +213,6 @@ static void look_at_card(struct taking *t, time_t now)
         return;
     }
     read_journal(look);
-    look->opening.minutes = UNTOLD;
     if (!attempt(take_plan, t, &refusal))
         needs(look, ATTENTION, text("%s. %s", refusal.what, refusal.next));
     judge_card(look, t->o, now);
@@ -232,6 +237,7 @@ static void take_stands(void *lent)
     if (!is_header(header))
         refuse(TURNED_AWAY, "Put it back from a copy.", "%s is damaged: it is no header of a change", path);
     struct change stands = change_of_header(header.at);
+    t->look->is_known = 1;
     t->look->id = id_words(stands.id);
     t->look->blocks = stands.blocks_after;
     t->look->counter = stands.counter;
@@ -267,6 +273,7 @@ struct look look_at(const char *path, const struct options *o, time_t now)
 {
     struct look look = {.path = path, .id = "-", .need = NOTHING, .what = "", .verdict = ""};
     struct taking t = {&look, o, {path, open(path, O_RDONLY | O_DIRECTORY | O_CLOEXEC)}};
+    look.opening.minutes = UNTOLD;
     look.begun = look.since = look.judged = look.accepted = UNKNOWN_TIME;
     if (t.folder.at < 0) {
         needs(&look, UNREADABLE, text("can't open the folder: %s", strerror(errno)));
@@ -308,7 +315,7 @@ int status_of(const struct look *looks, int count)
 const char *last_words(const struct look *look)
 {
     if (look->judged == UNKNOWN_TIME)
-        return look->is_owners ? "none" : "-";
+        return !look->is_owners || !look->is_known ? "-" : is_judged(look) ? "not in the journal" : "none";
     return text("%s %s", look->verdict, local_words(look->judged));
 }
 

@@ -15,6 +15,7 @@ enum need { UNREADABLE, ATTENTION, TO_DO, NOTHING };
 struct look {
     const char *path, *id;
     int is_owners, is_hosts; /* neither where the folder is none of them */
+    int is_known;            /* whether its card or `stands` can be read: the numbers are told then */
     uint64_t blocks, counter, tokens, left, open, pending;
     time_t begun;            /* the first line of the journal */
     time_t since;            /* when the token was drawn that is open, or the change asked that is pending */

@@ -110,7 +110,7 @@ int run_help(const struct options *o)
         help_all(&all);
     else if (o->count <= 2 && command_of(&all, name))
         help_one(command_of(&all, name));
-    else
+    else if (o->count != 1 || !help_family(&all, name))
         refuse_command(name, NULL);
     return ended(DONE);
 }

@@ -59,14 +59,14 @@ static void put_cell(FILE *page, const char *label, const char *class, const cha
 
 static void put_row(FILE *page, const struct look *look, int number)
 {
-    int known = look->is_owners || look->is_hosts;
+    int known = look->is_known;
     fputs("<tr>", page);
     put_cell(page, "Status", "badges", badge(look));
     put_cell(page, "File", "file",
              text("<a href=\"#file-%d\"><bdi>%s</bdi></a><br/><span class=\"faint\"><bdi>%s</bdi></span>", number,
                   html_text(known ? look->id : "no file"), html_text(look->path)));
     put_cell(page, "Blocks", "number", known ? grouped(look->blocks) : "-");
-    put_cell(page, "Audits left", "number", look->is_owners ? grouped(look->left) : "-");
+    put_cell(page, "Audits left", "number", known && look->is_owners ? grouped(look->left) : "-");
     put_cell(page, "Last audit", "date", last_html(look));
     put_cell(page, "Open", "open", html_text(open_words(look)));
     put_cell(page, "Next draw", "date day", opening_words(look));
@@ -146,7 +146,7 @@ static void put_charts(FILE *page, const struct look *look, const struct history
 
 static void put_file(FILE *page, const struct look *look, int number, time_t now)
 {
-    int known = look->is_owners || look->is_hosts;
+    int known = look->is_known;
     const char *party = look->is_owners ? "owner&#39;s folder" : look->is_hosts ? "host&#39;s folder" : "folder";
     fprintf(page, "<section id=\"file-%d\">\n<header><h2><bdi>%s</bdi></h2> %s <span class=\"faint\">%s "
                   "<bdi>%s</bdi></span></header>\n",

@@ -28,11 +28,10 @@ static const char *path_words(const char *path)
 
 static void put_row(struct table *table, const struct look *look)
 {
-    int known = look->is_owners || look->is_hosts;
     put_cell(table, look->need <= ATTENTION ? "!" : look->need == TO_DO ? "*" : " ");
     put_cell(table, look->id);
-    put_cell(table, known ? text("%" PRIu64, look->blocks) : "-");
-    put_cell(table, look->is_owners ? text("%" PRIu64, look->left) : "-");
+    put_cell(table, look->is_known ? text("%" PRIu64, look->blocks) : "-");
+    put_cell(table, look->is_known && look->is_owners ? text("%" PRIu64, look->left) : "-");
     put_cell(table, last_words(look));
     put_cell(table, open_words(look));
     put_cell(table, opening_words(look));
@@ -67,10 +66,10 @@ static const char *object_of(const struct look *look)
     static const char *const needs[] = {"unreadable", "attention", "to do", "nothing"};
     const char *party = look->is_owners ? "owner" : look->is_hosts ? "host" : "none";
     const char *numbers = "", *owners = "", *draw = "";
-    if (look->is_owners || look->is_hosts)
+    if (look->is_known)
         numbers = text(", \"id\": %s, \"blocks\": %" PRIu64 ", \"counter\": %" PRIu64, json_text(look->id),
                        look->blocks, look->counter);
-    if (look->is_owners)
+    if (look->is_known && look->is_owners)
         owners = text(", \"tokens\": %" PRIu64 ", \"left\": %" PRIu64 ", \"open\": %" PRIu64
                       ", \"pending\": %" PRIu64 ", \"verdict\": %s",
                       look->tokens, look->left, look->open, look->pending, json_text(look->verdict));
