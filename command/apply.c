@@ -83,7 +83,7 @@ static int go_on(const struct options *o)
 static int tell_in_place(const struct options *o, struct host *host, const struct change *c,
                          const char *path)
 {
-    if (host->damaged)
+    if (host->damaged && differs(host, c))
         refuse_damaged(host);
     if (is_being_put(host, c)) {
         if (o->check) {
@@ -107,6 +107,8 @@ static int tell_in_place(const struct options *o, struct host *host, const struc
                "has changed.",
                "%s is the change in place by its table, and %s has other %s than it brought", path,
                path_in(host->folder.path, other), other);
+    if (host->damaged && !o->check)
+        set_aside_damaged(host);
     if (!o->check)
         complete(host);
     say("the change is in place already: file %s has %" PRIu64 " blocks at counter %" PRIu64,
@@ -138,7 +140,9 @@ static void needs_receipt(const struct options *o, const struct change *c, const
                 "it run 'legbaro apply --committed committed %s'.",
                 path),
             "%s is asked, and stands only when the owner has committed it", path);
-    if (!check_receipt(o->committed, c, path))
+    int known = check_receipt(o->committed, c, path);
+    field("checksum_known", (uint64_t)known);
+    if (!known)
         say("warning: %s has no checksum, since the owner no longer had the change: look whether "
             "%s is "
             "the one that was sent last",

@@ -129,7 +129,10 @@ static int make_file(const struct folder *folder, const char *name, mode_t mode)
             file = openat(folder->at, name, how, mode);
     } while (file < 0 && errno == EINTR);
     if (file >= 0 && mode == 0600 && fchmod(file, mode) != 0) {
+        int fault = errno;
+        unlinkat(folder->at, name, 0);
         close(file);
+        errno = fault;
         return -1;
     }
     return file;

@@ -20,10 +20,11 @@
 /* ---- Memory ---- */
 
 /* What room gave out, one behind the other. */
-static union held {
+union held {
     union held *next;
     long double aligned;
-} * held;
+};
+static union held *held;
 
 static void give_back(void)
 {
@@ -34,7 +35,7 @@ static void give_back(void)
     }
 }
 
-static void no_memory(size_t length)
+static void __attribute__((noreturn)) no_memory(size_t length)
 {
     refuse(BAD_FILE, "Nothing has changed.", "there is no memory for %zu bytes", length);
 }
@@ -43,9 +44,9 @@ struct bytes room(size_t length)
 {
     union held *taken =
         length < SIZE_MAX - sizeof *taken ? calloc(1, sizeof *taken + length) : NULL;
-    struct bytes bytes = {(uint8_t *)(taken + 1), length};
     if (!taken)
         no_memory(length);
+    struct bytes bytes = {(uint8_t *)(taken + 1), length};
     if (!held)
         atexit(give_back);
     taken->next = held;
@@ -216,12 +217,14 @@ struct bytes map_whole(const char *path, uint64_t length, const char *what, cons
  * right: that of a regular file, and else `most` + 1. */
 static struct bytes read_up_to(const char *path, size_t most)
 {
-    struct stat status = {0};
+    struct stat status = {0}, standard;
     int file = is_standard_input(path) ? STDIN_FILENO : open_input(path, 0, &status);
     struct bytes bytes = room((S_ISREG(status.st_mode) && (uint64_t)status.st_size < most
                                    ? (size_t)status.st_size
                                    : most) + 1);
     size_t done = 0;
+    if (file == STDIN_FILENO && fstat(file, &standard) == 0)
+        note_read(&standard);
     if (S_ISREG(status.st_mode) && (uint64_t)status.st_size > most) {
         bytes.length = (size_t)status.st_size;
         close(file);

@@ -21,7 +21,7 @@ struct bytes room(size_t length);
 struct bytes shared_room(size_t length);
 
 /* A text as printf writes it, freed when the program ends. */
-char *text(const char *format, ...);
+char *text(const char *format, ...) __attribute__((format(printf, 1, 2)));
 
 /* A number of so many bytes, big-endian: read, and written. */
 uint64_t number_at(const uint8_t *at, unsigned width);

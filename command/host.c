@@ -238,6 +238,12 @@ static void put_applying(struct host *host, const struct change *c)
         take_away(&host->folder, "adding");
 }
 
+void set_aside_damaged(struct host *host)
+{
+    move_aside(&host->folder, "applying");
+    host->damaged = 0;
+}
+
 void put_in_place(struct host *host, const struct change *change)
 {
     struct change rest = *change;
@@ -246,8 +252,7 @@ void put_in_place(struct host *host, const struct change *change)
         must(cut_back(host, "blocks", change->block_bytes), host, "blocks");
         if (has_marks(change))
             must(cut_back(host, "marks", 1), host, "marks");
-        move_aside(&host->folder, "applying");
-        host->damaged = 0;
+        set_aside_damaged(host);
     }
     if (change_adds(change)) {
         add_blocks(host, change);
@@ -281,7 +286,7 @@ static void look_at_applying(struct host *host, int mends)
     struct change c;
     host->damaged = !can_go_on(host, &c);
     host->half = !host->damaged;
-    if (host->damaged && !mends)
+    if (host->damaged && (!mends || !host->begun))
         refuse_damaged(host);
     if (host->half)
         host->stands = host->applying = c;
@@ -327,11 +332,13 @@ void refuse_damaged(const struct host *host)
 {
     const char *path = path_in(host->folder.path, "applying");
     about(path);
-    refuse(
-        TURNED_AWAY,
-        "Ask the owner for the change that follows what stands, and run 'legbaro apply' with it: "
-        "the damaged one is moved aside then. Nothing has changed.",
-        "%s, a change that is half in place, is damaged or does not follow what stands", path);
+    if (!host->begun)
+        refuse(TURNED_AWAY, "Put 'stands' back from a copy. Nothing has changed.",
+               "%s, a change that is half in place, is there, and 'stands' is missing", path);
+    refuse(TURNED_AWAY,
+           "Ask the owner for the change that follows what stands, and run 'legbaro apply' with "
+           "it: the damaged one is moved aside then. Nothing has changed.",
+           "%s, a change that is half in place, is damaged or does not follow what stands", path);
 }
 
 void refuse_other_file(const struct host *host, const uint8_t *id, const char *path)

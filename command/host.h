@@ -32,6 +32,9 @@ struct host open_host(const char *path, int make, int mends);
  * when nothing can refuse the command that is not about these files. */
 void complete(struct host *host);
 
+/* Moves a damaged `applying` aside, where what it was to make is in place. */
+void set_aside_damaged(struct host *host);
+
 /* Ends the program where `applying` is damaged. */
 void refuse_damaged(const struct host *host);
 

@@ -43,7 +43,8 @@ int run_pool(const struct options *o)
     field("files", (uint64_t)o->count);
     field_text("file", out.path);
     say("%d replies are one of %zu bytes", o->count, pooled.length);
-    say("next: send %s to the owner", out.path);
+    if (out.standard < 0)
+        say("next: send %s to the owner", out.path);
     return ended(DONE);
 }
 

@@ -93,6 +93,7 @@ int run_prove(const struct options *o)
     field_text("file", out.path);
     say("token %" PRIu64 " is answered", number_at(message.at + TOKEN, 4));
     tell_totals(totals);
-    say("next: send %s to the owner", out.path);
+    if (out.standard < 0)
+        say("next: send %s to the owner", out.path);
     return ended(DONE);
 }

@@ -235,7 +235,8 @@ int attempt(void (*call)(void *lent), void *lent, struct refusal *refusal)
     return made;
 }
 
-static void refuse_in_words(enum status status, const char *next, const char *what)
+static void __attribute__((noreturn))
+refuse_in_words(enum status status, const char *next, const char *what)
 {
     if (back) {
         *caught = (struct refusal){status, text("%s", what), text("%s", next)};

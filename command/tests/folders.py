@@ -5,12 +5,14 @@
   File       one file under test: its owner, and what its host may hold (two states after a kill, until a command settles it)
   World      the scratch folder: one key, the files, and the checks after each command
 """
+import json
 import os
 import random
 import re
 import signal
 import subprocess
 import time
+import zlib
 from dataclasses import dataclass, field
 
 import book
