@@ -15,7 +15,8 @@ enum { WIDTH = 340, HEIGHT = 120, LEFT = 8, RIGHT = WIDTH - 8, TOP = 22, BOTTOM 
 
 static double across(struct span span, time_t time)
 {
-    double part = span.to > span.from ? (double)(time - span.from) / (double)(span.to - span.from) : 1;
+    double part =
+        span.to > span.from ? (double)(time - span.from) / (double)(span.to - span.from) : 1;
     part = part < 0 ? 0 : part > 1 ? 1 : part;
     return LEFT + part * (RIGHT - LEFT);
 }
@@ -34,7 +35,8 @@ static const char *date_words(time_t time)
 
 static void begin(FILE *page, const char *what, struct span span)
 {
-    fprintf(page, "<svg viewBox=\"0 0 %d %d\" role=\"img\" aria-label=\"%s\">\n", WIDTH, HEIGHT, what);
+    fprintf(page, "<svg viewBox=\"0 0 %d %d\" role=\"img\" aria-label=\"%s\">\n", WIDTH, HEIGHT,
+            what);
     fprintf(page, "<path class=\"axis\" d=\"M%d %dH%d\"/>\n", LEFT, BOTTOM, RIGHT);
     fprintf(page, "<text x=\"%d\" y=\"%d\">%s</text>\n", LEFT, HEIGHT - 6, date_words(span.from));
     fprintf(page, "<text x=\"%d\" y=\"%d\" text-anchor=\"end\">%s</text>\n", RIGHT, HEIGHT - 6,
@@ -55,10 +57,11 @@ static void end(FILE *page)
 /* ---- Audits ---- */
 
 /* A mark for each pixel across that has an audit of a kind: a dot, a cross or a bar. */
-static void draw_marks(FILE *page, const struct history *history, struct span span, int kind, double y)
+static void draw_marks(FILE *page, const struct history *history, struct span span, int kind,
+                       double y)
 {
-    static const char *const marks[] = {"", "m-4 0a4 4 0 1 0 8 0a4 4 0 1 0-8 0", "m-4-4l8 8m0-8l-8 8",
-                                        "m0-5v10"};
+    static const char *const marks[] = {"", "m-4 0a4 4 0 1 0 8 0a4 4 0 1 0-8 0",
+                                        "m-4-4l8 8m0-8l-8 8", "m0-5v10"};
     static const char *const classes[] = {"", "good", "bad", "proof"};
     int last = -1;
     fprintf(page, "<path class=\"%s\" d=\"", classes[kind]);
@@ -75,7 +78,8 @@ static void draw_marks(FILE *page, const struct history *history, struct span sp
 void draw_audits(FILE *page, const struct history *history, struct span span)
 {
     const double upper = TOP + 16, lower = BOTTOM - 16;
-    begin(page, text("%" PRIu64 " accepted, %" PRIu64 " rejected", history->accepted, history->rejected),
+    begin(page,
+          text("%" PRIu64 " accepted, %" PRIu64 " rejected", history->accepted, history->rejected),
           span);
     if (history->accepted)
         draw_marks(page, history, span, ACCEPTED, upper);
@@ -137,8 +141,8 @@ void draw_blocks(FILE *page, const struct history *history, struct span span, ui
     end(page);
 }
 
-void draw_left(FILE *page, const struct history *history, struct span span, time_t now, uint64_t left,
-               time_t out)
+void draw_left(FILE *page, const struct history *history, struct span span, time_t now,
+               uint64_t left, time_t out)
 {
     uint64_t most = most_value(history, 1, left);
     struct span longer = {span.from, out != UNKNOWN_TIME && out > span.to ? out : span.to};

@@ -32,8 +32,9 @@ static int is_time(const struct tm *read)
     struct tm copy = *read;
     time_t time = timegm(&copy);
     gmtime_r(&time, &back);
-    return back.tm_mon == read->tm_mon && back.tm_mday == read->tm_mday && back.tm_hour == read->tm_hour &&
-           back.tm_min == read->tm_min && back.tm_sec == read->tm_sec;
+    return back.tm_mon == read->tm_mon && back.tm_mday == read->tm_mday &&
+           back.tm_hour == read->tm_hour && back.tm_min == read->tm_min &&
+           back.tm_sec == read->tm_sec;
 }
 
 /* The date and the time of the day that words begin with. */
@@ -63,8 +64,8 @@ time_t read_local(const char *words, const char *option)
     if (!with_time && (!has_form(words, "dddd-dd-dd") || words[10]))
         read.tm_mday = 0;
     if (!is_time(&read))
-        refuse(WRONG_USE, "Write it as in 2026-11-23 or 2026-11-23T10:30.", "%s: '%s' is not a date",
-               option, words);
+        refuse(WRONG_USE, "Write it as in 2026-11-23 or 2026-11-23T10:30.",
+               "%s: '%s' is not a date", option, words);
     check_zone();
     return mktime(&read);
 }
@@ -97,7 +98,8 @@ const char *zone_words(const struct tm *local)
     long minutes = local->tm_gmtoff / MINUTE, size = labs(minutes);
     if (!minutes && !strcmp(local->tm_zone, "UTC"))
         return "UTC";
-    return text("%s, UTC%c%02ld:%02ld", local->tm_zone, minutes < 0 ? '-' : '+', size / 60, size % 60);
+    return text("%s, UTC%c%02ld:%02ld", local->tm_zone, minutes < 0 ? '-' : '+', size / 60,
+                size % 60);
 }
 
 const char *utc_words(time_t time)

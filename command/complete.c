@@ -89,7 +89,8 @@ void complete_words(const struct commands *commands, int count, char **words)
     int named = names_in(count, words, names);
     typed = count ? words[count - 1] : "";
     const struct command *one = named ? command_of(commands, names[0]) : NULL;
-    const struct command *two = named > 1 ? command_of(commands, text("%s %s", names[0], names[1])) : NULL;
+    const struct command *two =
+        named > 1 ? command_of(commands, text("%s %s", names[0], names[1])) : NULL;
     if (*value)
         offer_value(value);
     else if (one || two)

@@ -67,7 +67,8 @@ void each_option(const struct command *command, void (*call)(const char *, const
         call(text("--%.*s", (int)length, at + 1), meaning_of(at + 1, length));
     }
     for (int i = 0; common[i]; i++)
-        call(text("%s%s", common[i][1] ? "--" : "-", common[i]), meaning_of(common[i], strlen(common[i])));
+        call(text("%s%s", common[i][1] ? "--" : "-", common[i]),
+             meaning_of(common[i], strlen(common[i])));
 }
 
 /* ---- For people ---- */
@@ -104,11 +105,16 @@ void help_all(const struct commands *commands)
             printf("\n%s\n", group);
         print_command(command);
     }
-    puts("\n'legbaro help COMMAND' prints a command's options. Every command takes -C FOLDER, the owner's or\n"
-         "the host's folder; other words are relative to the current folder. The manual is legbaro(1).\n\n"
-         "Which of three centres needs attention: 'legbaro status north south east', where these are the\n"
-         "owner's folders of the three. With '--every 7' a centre without an audit for a week does too.\n\n"
-         "Exit status: 0 done or accepted, 1 rejected, in need of attention, or parity that does not agree,\n"
+    puts("\n'legbaro help COMMAND' prints a command's options. Every command takes -C FOLDER, the "
+         "owner's or\n"
+         "the host's folder; other words are relative to the current folder. The manual is "
+         "legbaro(1).\n\n"
+         "Which of three centres needs attention: 'legbaro status north south east', where these "
+         "are the\n"
+         "owner's folders of the three. With '--every 7' a centre without an audit for a week does "
+         "too.\n\n"
+         "Exit status: 0 done or accepted, 1 rejected, in need of attention, or parity that does "
+         "not agree,\n"
          "2 refused, 3 wrong use, 4 a file can't be read or written.");
 }
 
@@ -133,8 +139,10 @@ void help_one(const struct command *command)
     printf("usage: legbaro %s [OPTION..]%s%s\n%s\n\n", command->name, *command->words ? " " : "",
            command->words, command->purpose);
     each_option(command, print_option);
-    puts("\nOptions may come before or after the command. -C names the folder of the files that a command\n"
-         "keeps; other words are relative to the current folder. '-' is standard input where a small file\n"
+    puts("\nOptions may come before or after the command. -C names the folder of the files that a "
+         "command\n"
+         "keeps; other words are relative to the current folder. '-' is standard input where a "
+         "small file\n"
          "is read. The manual is legbaro(1).");
 }
 
@@ -148,7 +156,8 @@ const struct command *command_of(const struct commands *commands, const char *na
     return NULL;
 }
 
-/* How many letters are added, left out, changed or swapped with their neighbour between two short words. */
+/* How many letters are added, left out, changed or swapped with their neighbour between two
+ * short words. */
 enum { MOST_LETTERS = 24, FAR = 100 };
 static int distance(const char *a, const char *b)
 {

@@ -22,7 +22,8 @@ static const char name[] = "journal", beside[] = "journal.new";
 
 struct standing standing_of_card(struct bytes card)
 {
-    uint64_t tokens = in_card(card, LEGBARO_CARD_TOKENS, 4), next = in_card(card, LEGBARO_CARD_NEXT, 4);
+    uint64_t tokens = in_card(card, LEGBARO_CARD_TOKENS, 4),
+             next = in_card(card, LEGBARO_CARD_NEXT, 4);
     struct standing now = {
         .kind = "card",
         .checksum = (uint32_t)crc32_z(0, card.at, card.length),
@@ -143,7 +144,8 @@ static void say_fault(const struct folder *folder, const char *file)
              path_in(folder->path, file), strerror(errno));
 }
 
-/* Opens the journal; makes it where it is missing. Returns -1 where it can't, or where it is no file. */
+/* Opens the journal; makes it where it is missing. Returns -1 where it can't, or where it is no
+ * file. */
 static int open_journal(const struct folder *folder, const struct standing *now)
 {
     const int how = O_WRONLY | O_APPEND | O_CREAT | O_NOFOLLOW | O_NONBLOCK | O_CLOEXEC;
@@ -159,7 +161,8 @@ static int open_journal(const struct folder *folder, const struct standing *now)
     return -1;
 }
 
-/* Appends a line, or the rest of it where the journal ends with its begin. Returns whether it is stored. */
+/* Appends a line, or the rest of it where the journal ends with its begin. Returns whether it is
+ * stored. */
 static int append(const struct folder *folder, const struct standing *now, const struct tail *tail,
                   const char *line)
 {
@@ -194,7 +197,8 @@ int is_journal_unsettled(const struct folder *folder)
     return is_in(folder, beside);
 }
 
-/* Removes journal.new. One that stays is of a line that is stored, and the next command removes it. */
+/* Removes journal.new. One that stays is of a line that is stored, and the next command removes
+ * it. */
 static void remove_prepared(const struct folder *folder)
 {
     int result;
@@ -220,7 +224,8 @@ static const char *prepared_line(const struct folder *folder, const struct stand
 }
 
 /* Appends a line that is made from what stands, where the one of the last command is gone. */
-static int append_made(const struct folder *folder, const struct standing *now, const struct tail *tail)
+static int append_made(const struct folder *folder, const struct standing *now,
+                       const struct tail *tail)
 {
     const struct entry entry = {.command = tail->there ? "mended" : "begun"};
     if (!append(folder, now, tail, line_of(&entry, now)))

@@ -1,21 +1,24 @@
 /*
- * The journal of a folder, the owner's or the host's: `journal`, one line of JSON for each finished command
- * that changed or judged something. There is no key material in it.
+ * The journal of a folder, the owner's or the host's: `journal`, one line of JSON for each finished
+ * command that changed or judged something. There is no key material in it.
  *
- *   time      UTC, as in 2026-11-23T21:00:00Z
- *   command   as it is called; "begun" and "mended" are lines that were made from what stands
- *   role      surveyor, planner or manager; with the owner alone
- *   id        of the file, as in other JSON output
- *   counter, blocks, left, open, pending     what stands afterwards; the last three with the owner alone
- *   token, verdict, cause, pool     of a draw, a proof or a verdict; pool is the number of files judged
- *   turns, hashes     the totals, where the command has some
- *   program   the version of the program
- *   card      CRC-32 of the card afterwards, as in card.sum; with the host `stands`, that of `stands`
+ *   time                      UTC, as in 2026-11-23T21:00:00Z
+ *   command                   as it is called; "begun" and "mended" are made from what stands
+ *   role                      surveyor, planner or manager; with the owner alone
+ *   id                        of the file, as in other JSON output
+ *   counter, blocks           what stands afterwards
+ *   left, open, pending       audits left, the open token, the pending counter; owner's alone
+ *   token                     of a draw, a proof or a verdict
+ *   verdict, cause, pool      of a verdict; pool is the number of files judged together
+ *   turns, hashes             the totals, where the command has some
+ *   program                   the version of the program
+ *   card, stands              CRC-32 of the one that the folder has, as in card.sum
  *
- * A line is written as journal.new before the card (or `stands`) takes its place, and appended after. So the
- * last line always has the checksum of what stands, or the next command appends the one that is missing:
- * from journal.new, or where that is gone from what stands. Nothing in a journal is ever removed; a torn
- * line is completed or ended. A journal that can't be read or written stops no command: it is only said.
+ * A line is written as journal.new before the card (or `stands`) takes its place, and appended
+ * after. So the last line always has the checksum of what stands, or the next command appends the
+ * one that is missing: from journal.new, or where that is gone from what stands. Nothing in a
+ * journal is ever removed; a torn line is completed or ended. A journal that can't be read or
+ * written stops no command: it is only said.
  */
 #ifndef JOURNAL_H
 #define JOURNAL_H
@@ -40,7 +43,8 @@ struct standing {
 struct standing standing_of_card(struct bytes card);
 struct standing standing_of_host(const struct change *stands);
 
-/* Writes the line of a command as journal.new, before what stands after it is in place. Returns the line. */
+/* Writes the line of a command as journal.new, before what stands after it is in place. Returns
+ * the line. */
 const char *prepare_line(const struct folder *folder, const struct entry *entry,
                          const struct standing *after);
 

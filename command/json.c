@@ -41,7 +41,8 @@ static void skip_blanks(const char **at, const char *end)
         ++*at;
 }
 
-/* Moves past a string, from its first quote on. Returns whether it is whole and has no control byte. */
+/* Moves past a string, from its first quote on. Returns whether it is whole and has no control
+ * byte. */
 static int skip_string(const char **at, const char *end)
 {
     if (*at == end || **at != '"')
@@ -114,7 +115,8 @@ uint64_t json_number(const struct json_field *field, uint64_t otherwise)
     uint64_t number = 0;
     if (field->value_length > 18)
         return otherwise;
-    return read_number(text("%.*s", (int)field->value_length, field->value), &number) ? number : otherwise;
+    return read_number(text("%.*s", (int)field->value_length, field->value), &number) ? number
+                                                                                      : otherwise;
 }
 
 /* Writes the character of a number of up to four hexadecimal digits in UTF-8. */
@@ -133,7 +135,8 @@ static char *put_character(char *to, unsigned number)
 
 const char *json_string(const struct json_field *field)
 {
-    if (field->value_length < 2 || field->value[0] != '"' || field->value[field->value_length - 1] != '"')
+    if (field->value_length < 2 || field->value[0] != '"' ||
+        field->value[field->value_length - 1] != '"')
         return "";
     const char *at = field->value + 1, *end = field->value + field->value_length - 1;
     char *start = text("%.*s", (int)(end - at), at), *to = start;

@@ -21,14 +21,14 @@ static const struct {
     size_t at;
     int is_text;
 } known[] = {
-    {"command", offsetof(struct line, command), 1},  {"role", offsetof(struct line, role), 1},
-    {"id", offsetof(struct line, id), 1},            {"verdict", offsetof(struct line, verdict), 1},
-    {"program", offsetof(struct line, program), 1},  {"card", offsetof(struct line, card), 1},
-    {"stands", offsetof(struct line, stands), 1},    {"counter", offsetof(struct line, counter), 0},
-    {"blocks", offsetof(struct line, blocks), 0},    {"left", offsetof(struct line, left), 0},
-    {"open", offsetof(struct line, open), 0},        {"pending", offsetof(struct line, pending), 0},
-    {"token", offsetof(struct line, token), 0},      {"cause", offsetof(struct line, cause), 0},
-    {"turns", offsetof(struct line, turns), 0},      {"hashes", offsetof(struct line, hashes), 0},
+    {"command", offsetof(struct line, command), 1}, {"role", offsetof(struct line, role), 1},
+    {"id", offsetof(struct line, id), 1},           {"verdict", offsetof(struct line, verdict), 1},
+    {"program", offsetof(struct line, program), 1}, {"card", offsetof(struct line, card), 1},
+    {"stands", offsetof(struct line, stands), 1},   {"counter", offsetof(struct line, counter), 0},
+    {"blocks", offsetof(struct line, blocks), 0},   {"left", offsetof(struct line, left), 0},
+    {"open", offsetof(struct line, open), 0},       {"pending", offsetof(struct line, pending), 0},
+    {"token", offsetof(struct line, token), 0},     {"cause", offsetof(struct line, cause), 0},
+    {"turns", offsetof(struct line, turns), 0},     {"hashes", offsetof(struct line, hashes), 0},
 };
 enum { KNOWN = sizeof known / sizeof *known };
 

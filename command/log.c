@@ -61,8 +61,8 @@ static struct journal open_journal(struct logged *log, const char *path)
     return journal;
 }
 
-/* The journal whose next line is the oldest; null where all are over. So the lines of one journal stay in
- * their order, whatever their times are. */
+/* The journal whose next line is the oldest; null where all are over. So the lines of one
+ * journal stay in their order, whatever their times are. */
 static struct journal *oldest(struct journal *journals, int count)
 {
     struct journal *found = NULL;
@@ -135,10 +135,12 @@ static void tell_rest(const struct logged *log)
     field("damaged", log->damaged);
     field("future", log->future);
     if (!log->shown)
-        say("no line%s%s", log->o->audits ? " with a verdict" : "", log->o->since ? " since then" : "");
+        say("no line%s%s", log->o->audits ? " with a verdict" : "",
+            log->o->since ? " since then" : "");
     if (log->damaged)
         note("%s not read, since %s torn or no line of a journal",
-             counted(log->damaged, "line was", "lines were"), log->damaged == 1 ? "it is" : "they are");
+             counted(log->damaged, "line was", "lines were"),
+             log->damaged == 1 ? "it is" : "they are");
     if (log->future)
         note("%s in the future: look at the clock",
              counted(log->future, "line has a time", "lines have times"));
@@ -146,7 +148,8 @@ static void tell_rest(const struct logged *log)
 
 int run_log(const struct options *o)
 {
-    char *here = path_in(o->folder, "journal"), **paths = o->count ? o->words : &here, *bytes = NULL;
+    char *here = path_in(o->folder, "journal"), **paths = o->count ? o->words : &here,
+         *bytes = NULL;
     int count = o->count ? o->count : 1;
     size_t length = 0;
     struct journal *journals = (struct journal *)room((size_t)count * sizeof *journals).at;

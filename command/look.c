@@ -75,15 +75,17 @@ static int is_found(const struct look *look)
     return begun && (!is_judged(look) || look->accepted != UNKNOWN_TIME);
 }
 
-/* Whether a line may have what is looked for, before it is read whole: draws and verdicts have a token. */
+/* Whether a line may have what is looked for, before it is read whole: draws and verdicts have a
+ * token. */
 static int is_candidate(const struct look *look, const char *begin, const char *end)
 {
     size_t length = (size_t)(end - begin);
-    return memmem(begin, length, "\"token\"", 7) || (look->pending && memmem(begin, length, "\"ask ", 5));
+    return memmem(begin, length, "\"token\"", 7) ||
+           (look->pending && memmem(begin, length, "\"ask ", 5));
 }
 
-/* Goes through the journal backwards, until all is found. After a rejection the last acceptance is looked for
- * in the newest part of the journal alone. */
+/* Goes through the journal backwards, until all is found. After a rejection the last acceptance
+ * is looked for in the newest part of the journal alone. */
 static void read_journal(struct look *look)
 {
     struct bytes file;
@@ -105,11 +107,13 @@ static void read_journal(struct look *look)
 
 /* ---- The owner's folder ---- */
 
-/* The card, read again where its checksum does not fit: a command may have replaced it meanwhile. */
+/* The card, read again where its checksum does not fit: a command may have replaced it
+ * meanwhile. */
 static struct bytes card_in(struct taking *t)
 {
     struct bytes card = read_card(t->look->path);
-    for (int tries = 3; is_newest(&t->folder, card) == NOT_NEWEST; card = read_card(t->look->path)) {
+    for (int tries = 3; is_newest(&t->folder, card) == NOT_NEWEST;
+         card = read_card(t->look->path)) {
         if (!--tries) {
             needs(t->look, ATTENTION, "the card is not the newest. Put back the newest card");
             break;
@@ -167,7 +171,8 @@ static void judge_overdue(struct look *look, uint64_t days, time_t now)
         return;
     if (look->accepted != UNKNOWN_TIME)
         needs(look, ATTENTION,
-              text("overdue: the last audit passed %s. Next: %s", ago_words(last, now), overdue_next(look)));
+              text("overdue: the last audit passed %s. Next: %s", ago_words(last, now),
+                   overdue_next(look)));
     else
         needs(look, ATTENTION, text("overdue: no audit has passed. Next: %s", overdue_next(look)));
 }
@@ -176,7 +181,8 @@ static void judge_overdue(struct look *look, uint64_t days, time_t now)
 static const char *rejected_words(uint64_t cause)
 {
     if (cause == LEGBARO_CAUSE_DIGEST)
-        return "the last audit was rejected: the host has lost what it was to keep. Next: ask it to put "
+        return "the last audit was rejected: the host has lost what it was to keep. Next: ask it "
+               "to put "
                "the blocks back from a copy, and draw again";
     return text("the last audit was rejected: %s. Next: draw again", cause_words(cause));
 }
@@ -187,7 +193,8 @@ static void judge_card(struct look *look, const struct options *o, time_t now)
     if (!strcmp(look->verdict, "rejected"))
         needs(look, ATTENTION, rejected_words(look->cause));
     if (!look->left && !look->open)
-        needs(look, ATTENTION, "every token is spent: set up a new file, by legbaro(1), under RENEWING A FILE");
+        needs(look, ATTENTION,
+              "every token is spent: set up a new file, by legbaro(1), under RENEWING A FILE");
     if (look->judged != UNKNOWN_TIME && look->judged > now)
         needs(look, ATTENTION, "the last verdict is in the future: look at the clock");
     if (o->every != UNTOLD)
@@ -197,8 +204,9 @@ static void judge_card(struct look *look, const struct options *o, time_t now)
     if (look->open)
         needs(look, TO_DO, "send 'message' to the host, and judge the reply");
     if (look->left && look->left * 10 <= look->tokens)
-        needs(look, TO_DO,
-              text("%s left: plan to renew the file", counted(look->left, "audit is", "audits are")));
+        needs(
+            look, TO_DO,
+            text("%s left: plan to renew the file", counted(look->left, "audit is", "audits are")));
     if (look->opening.minutes == LEGBARO_WEEK_MINUTES)
         needs(look, TO_DO, "the plan allows no draw at all");
 }
@@ -226,16 +234,19 @@ static void needs_size(struct taking *t, const char *name, uint64_t length)
     if (fstatat(t->folder.at, name, &status, 0) != 0)
         needs(t->look, ATTENTION, text("'%s' is gone: put it back from a copy", name));
     else if ((uint64_t)status.st_size != length)
-        needs(t->look, ATTENTION, text("'%s' has another size than what stands: put it back from a copy", name));
+        needs(t->look, ATTENTION,
+              text("'%s' has another size than what stands: put it back from a copy", name));
 }
 
 static void take_stands(void *lent)
 {
     struct taking *t = lent;
     const char *path = path_in(t->look->path, "stands");
-    struct bytes header = map_whole(path, CHANGE_HEADER_BYTES, "the header of a change", "Put it back from a copy.");
+    struct bytes header =
+        map_whole(path, CHANGE_HEADER_BYTES, "the header of a change", "Put it back from a copy.");
     if (!is_header(header))
-        refuse(TURNED_AWAY, "Put it back from a copy.", "%s is damaged: it is no header of a change", path);
+        refuse(TURNED_AWAY, "Put it back from a copy.",
+               "%s is damaged: it is no header of a change", path);
     struct change stands = change_of_header(header.at);
     t->look->is_known = 1;
     t->look->id = id_words(stands.id);
@@ -265,7 +276,8 @@ static void look_inside(struct taking *t, time_t now)
             needs_for(t->look, &refusal);
         read_journal(t->look);
     } else {
-        needs(t->look, UNREADABLE, "no folder of an owner or a host: it has neither 'card' nor 'stands'");
+        needs(t->look, UNREADABLE,
+              "no folder of an owner or a host: it has neither 'card' nor 'stands'");
     }
 }
 
@@ -315,13 +327,16 @@ int status_of(const struct look *looks, int count)
 const char *last_words(const struct look *look)
 {
     if (look->judged == UNKNOWN_TIME)
-        return !look->is_owners || !look->is_known ? "-" : is_judged(look) ? "not in the journal" : "none";
+        return !look->is_owners || !look->is_known ? "-"
+               : is_judged(look)                   ? "not in the journal"
+                                                   : "none";
     return text("%s %s", look->verdict, local_words(look->judged));
 }
 
 const char *open_words(const struct look *look)
 {
-    const char *since = look->since == UNKNOWN_TIME ? "" : text(" since %s", local_words(look->since));
+    const char *since =
+        look->since == UNKNOWN_TIME ? "" : text(" since %s", local_words(look->since));
     if (look->pending)
         return text("pending %" PRIu64 "%s", look->pending, since);
     return look->open ? text("token %" PRIu64 "%s", look->open, since) : "-";

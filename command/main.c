@@ -133,6 +133,8 @@ static int run(int before, int count, char **given)
         memmove(given + words, given, (size_t)before * sizeof *given);
         struct options options = read_options(&commands[i], count - words, given + words);
         speak(options.quiet ? QUIET : options.verbose ? VERBOSE : NORMAL);
+        if (options.progress)
+            always_show_progress();
         return commands[i].run(&options);
     }
     refuse_command(from[0], left > 1 && from[1][0] != '-' ? from[1] : NULL);
@@ -152,6 +154,7 @@ int main(int count, char **given)
 {
     struct sigaction action = {.sa_handler = cut};
     sigaction(SIGBUS, &action, NULL);
+    signal(SIGXFSZ, SIG_IGN); /* a write past the limit of a file's size fails with EFBIG then */
     given++;
     count--;
     if (count && (!strcmp(given[0], "-V") || (!strcmp(given[0], "--version") && count == 1))) {

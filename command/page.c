@@ -1,5 +1,5 @@
-/* The command report: one page of HTML with the status and the history of files. It has no script, needs
- * nothing from elsewhere, and is XML too. */
+/* The command report: one page of HTML with the status and the history of files. It has no
+ * script, needs nothing from elsewhere, and is XML too. */
 #define _GNU_SOURCE
 #include "chart.h"
 #include "clock.h"
@@ -33,7 +33,8 @@ static int is_page(struct bytes bytes)
 static const char *badge(const struct look *look)
 {
     static const char *const classes[] = {"unreadable", "attention", "todo", "fine"};
-    static const char *const words[] = {"can&#39;t be read", "needs attention", "to do", "in order"};
+    static const char *const words[] = {"can&#39;t be read", "needs attention", "to do",
+                                        "in order"};
     return text("<span class=\"badge %s\">%s</span>", classes[look->need], words[look->need]);
 }
 
@@ -44,8 +45,8 @@ static const char *last_html(const struct look *look)
                             : "faint";
     return look->judged == UNKNOWN_TIME
                ? last_words(look)
-               : text("<span class=\"%s\">%s</span> <span class=\"day\">%s</span>", known, html_text(look->verdict),
-                      local_words(look->judged));
+               : text("<span class=\"%s\">%s</span> <span class=\"day\">%s</span>", known,
+                      html_text(look->verdict), local_words(look->judged));
 }
 
 /* ---- The table ---- */
@@ -53,8 +54,8 @@ static const char *last_html(const struct look *look)
 static void put_cell(FILE *page, const char *label, const char *class, const char *html)
 {
     int none = !strcmp(html, "-");
-    fprintf(page, "<td class=\"%s%s\" data-label=\"%s\"><span>%s</span></td>", class, none ? " none" : "",
-            label, html);
+    fprintf(page, "<td class=\"%s%s\" data-label=\"%s\"><span>%s</span></td>", class,
+            none ? " none" : "", label, html);
 }
 
 static void put_row(FILE *page, const struct look *look, int number)
@@ -62,9 +63,11 @@ static void put_row(FILE *page, const struct look *look, int number)
     int known = look->is_known;
     fputs("<tr>", page);
     put_cell(page, "Status", "badges", badge(look));
-    put_cell(page, "File", "file",
-             text("<a href=\"#file-%d\"><bdi>%s</bdi></a><br/><span class=\"faint\"><bdi>%s</bdi></span>", number,
-                  html_text(known ? look->id : "no file"), html_text(look->path)));
+    put_cell(
+        page, "File", "file",
+        text(
+            "<a href=\"#file-%d\"><bdi>%s</bdi></a><br/><span class=\"faint\"><bdi>%s</bdi></span>",
+            number, html_text(known ? look->id : "no file"), html_text(look->path)));
     put_cell(page, "Blocks", "number", known ? grouped(look->blocks) : "-");
     put_cell(page, "Audits left", "number", known && look->is_owners ? grouped(look->left) : "-");
     put_cell(page, "Last audit", "date", last_html(look));
@@ -114,14 +117,15 @@ static void end_figure(FILE *page, const char *caption)
     fprintf(page, "<figcaption>%s</figcaption></figure>\n", caption);
 }
 
-static void put_audits(FILE *page, const struct look *look, const struct history *h, struct span span)
+static void put_audits(FILE *page, const struct look *look, const struct history *h,
+                       struct span span)
 {
     begin_figure(page, look->is_owners ? "Audits" : "Proofs");
     draw_audits(page, h, span);
-    end_figure(page, look->is_owners
-                         ? text("%" PRIu64 " accepted (dots above), %" PRIu64 " rejected (crosses below)",
-                                h->accepted, h->rejected)
-                         : counted(h->proofs, "message answered", "messages answered"));
+    end_figure(page, look->is_owners ? text("%" PRIu64 " accepted (dots above), %" PRIu64
+                                            " rejected (crosses below)",
+                                            h->accepted, h->rejected)
+                                     : counted(h->proofs, "message answered", "messages answered"));
 }
 
 static void put_charts(FILE *page, const struct look *look, const struct history *h, time_t now)
@@ -147,21 +151,28 @@ static void put_charts(FILE *page, const struct look *look, const struct history
 static void put_file(FILE *page, const struct look *look, int number, time_t now)
 {
     int known = look->is_known;
-    const char *party = look->is_owners ? "owner&#39;s folder" : look->is_hosts ? "host&#39;s folder" : "folder";
-    fprintf(page, "<section id=\"file-%d\">\n<header><h2><bdi>%s</bdi></h2> %s <span class=\"faint\">%s "
-                  "<bdi>%s</bdi></span></header>\n",
-            number, html_text(known ? look->id : "no file"), badge(look), party, html_text(look->path));
+    const char *party = look->is_owners  ? "owner&#39;s folder"
+                        : look->is_hosts ? "host&#39;s folder"
+                                         : "folder";
+    fprintf(page,
+            "<section id=\"file-%d\">\n<header><h2><bdi>%s</bdi></h2> %s <span class=\"faint\">%s "
+            "<bdi>%s</bdi></span></header>\n",
+            number, html_text(known ? look->id : "no file"), badge(look), party,
+            html_text(look->path));
     if (*look->what)
         fprintf(page, "<p>%s</p>\n", html_text(look->what));
     struct history history = known ? read_history(look->path, now) : (struct history){0};
     if (history.count)
         put_charts(page, look, &history, now);
     else if (known)
-        fputs("<p class=\"faint\">Its journal is missing or has no line, so there is no history.</p>\n", page);
+        fputs("<p class=\"faint\">Its journal is missing or has no line, so there is no "
+              "history.</p>\n",
+              page);
     if (history.damaged || history.future)
         fprintf(page, "<p class=\"faint\">Left out: %s, %s.</p>\n",
                 counted(history.damaged, "damaged line", "damaged lines"),
-                counted(history.future, "line with a time in the future", "lines with times in the future"));
+                counted(history.future, "line with a time in the future",
+                        "lines with times in the future"));
     fputs("</section>\n", page);
 }
 
@@ -177,7 +188,8 @@ static int count_of(const struct look *looks, int count, enum need least, enum n
 
 static const char *summary(const struct look *looks, int count)
 {
-    int urgent = count_of(looks, count, UNREADABLE, ATTENTION), todo = count_of(looks, count, TO_DO, TO_DO);
+    int urgent = count_of(looks, count, UNREADABLE, ATTENTION),
+        todo = count_of(looks, count, TO_DO, TO_DO);
     return text("%s. %s. %s something to do.", counted((uint64_t)count, "folder", "folders"),
                 urgent ? counted((uint64_t)urgent, "needs attention", "need attention")
                        : "None needs attention",
@@ -193,8 +205,11 @@ static void put_page(FILE *page, const struct look *looks, int count, time_t now
             "<meta name=\"viewport\" content=\"width=device-width, initial-scale=1\"/>\n"
             "<title>Files and their audits</title>\n<style>\n%s</style>\n</head>\n<body>\n",
             generator, page_style);
-    fprintf(page, "<h1>Files and their audits</h1>\n<p>%s</p>\n<p class=\"faint\">As of %s (%s), by legbaro %s.</p>\n",
-            summary(looks, count), local_words(now), html_text(zone_words(&local)), LEGBARO_VERSION);
+    fprintf(page,
+            "<h1>Files and their audits</h1>\n<p>%s</p>\n<p class=\"faint\">As of %s (%s), by "
+            "legbaro %s.</p>\n",
+            summary(looks, count), local_words(now), html_text(zone_words(&local)),
+            LEGBARO_VERSION);
     put_table(page, looks, count);
     for (int i = 0; i < count; i++)
         put_file(page, &looks[i], i + 1, now);

@@ -41,8 +41,9 @@ static void put_row(struct table *table, const struct look *look)
 
 static void say_table(const struct look *looks, int count)
 {
-    static const char *const heads[] = {" ",         "FILE",   "BLOCKS",    "LEFT", "LAST AUDIT",
-                                        "OPEN SINCE", "NEXT DRAW", "FOLDER", "WHAT TO DO"};
+    static const char *const heads[] = {" ",         "FILE",       "BLOCKS",
+                                        "LEFT",      "LAST AUDIT", "OPEN SINCE",
+                                        "NEXT DRAW", "FOLDER",     "WHAT TO DO"};
     struct table table = new_table(sizeof heads / sizeof *heads);
     table.right = 1u << 2 | 1u << 3;
     for (int i = 0; i < table.columns; i++)
@@ -67,17 +68,18 @@ static const char *object_of(const struct look *look)
     const char *party = look->is_owners ? "owner" : look->is_hosts ? "host" : "none";
     const char *numbers = "", *owners = "", *draw = "";
     if (look->is_known)
-        numbers = text(", \"id\": %s, \"blocks\": %" PRIu64 ", \"counter\": %" PRIu64, json_text(look->id),
-                       look->blocks, look->counter);
+        numbers = text(", \"id\": %s, \"blocks\": %" PRIu64 ", \"counter\": %" PRIu64,
+                       json_text(look->id), look->blocks, look->counter);
     if (look->is_known && look->is_owners)
-        owners = text(", \"tokens\": %" PRIu64 ", \"left\": %" PRIu64 ", \"open\": %" PRIu64
-                      ", \"pending\": %" PRIu64 ", \"verdict\": %s",
-                      look->tokens, look->left, look->open, look->pending, json_text(look->verdict));
+        owners =
+            text(", \"tokens\": %" PRIu64 ", \"left\": %" PRIu64 ", \"open\": %" PRIu64
+                 ", \"pending\": %" PRIu64 ", \"verdict\": %s",
+                 look->tokens, look->left, look->open, look->pending, json_text(look->verdict));
     if (look->is_owners && look->opening.minutes != UNTOLD)
         draw = text(", \"wait\": %" PRIu64, look->opening.minutes);
     return text("{\"folder\": %s, \"party\": \"%s\", \"need\": \"%s\", \"what\": %s%s%s%s%s%s%s}",
-                json_text(look->path), party, needs[look->need], json_text(look->what), numbers, owners,
-                time_field("judged", look->judged), time_field("accepted", look->accepted),
+                json_text(look->path), party, needs[look->need], json_text(look->what), numbers,
+                owners, time_field("judged", look->judged), time_field("accepted", look->accepted),
                 time_field("since", look->since), draw);
 }
 

@@ -50,6 +50,8 @@ void print_table(const struct table *table)
         int blanks = widths[column] - width_of(table->cells[i]);
         int before = table->right >> column & 1 ? blanks : 0;
         printf("%*s%s%*s%s", before, "", table->cells[i], last ? 0 : blanks - before, "",
-               last ? "\n" : column ? "  " : " ");
+               last     ? "\n"
+               : column ? "  "
+                        : " ");
     }
 }

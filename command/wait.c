@@ -11,8 +11,8 @@
 
 uint64_t next_opening(const struct plan *plan, struct opening *opening)
 {
-    uint64_t result = legbaro_wait(plan->bytes, sizeof plan->bytes, plan->year, plan->month, plan->day,
-                                   plan->minute);
+    uint64_t result = legbaro_wait(plan->bytes, sizeof plan->bytes, plan->year, plan->month,
+                                   plan->day, plan->minute);
     opening->minutes = LEGBARO_NUMBER(result);
     if (LEGBARO_CODE(result) != LEGBARO_OK)
         return LEGBARO_CODE(result);

@@ -7,8 +7,8 @@
 #include <time.h>
 
 struct opening {
-    uint64_t minutes;  /* from the plan's time on: 0 for now, LEGBARO_WEEK_MINUTES for never */
-    struct tm local; /* the time on the local clock, with its zone; not for never */
+    uint64_t minutes; /* from the plan's time on: 0 for now, LEGBARO_WEEK_MINUTES for never */
+    struct tm local;  /* the time on the local clock, with its zone; not for never */
 };
 
 /* Writes the opening, and returns the library's code. */

@@ -36,7 +36,8 @@ static int skip_time(const char **at, int digits)
         ++*at;
     for (; read < digits && isdigit((unsigned char)**at); read++)
         ++*at;
-    while (read && **at == ':' && isdigit((unsigned char)(*at)[1]) && isdigit((unsigned char)(*at)[2]))
+    while (read && **at == ':' && isdigit((unsigned char)(*at)[1]) &&
+           isdigit((unsigned char)(*at)[2]))
         *at += 3;
     return read > 0;
 }
@@ -81,8 +82,7 @@ static int is_zone_file(const char *zone)
     const char *folder = getenv("TZDIR");
     struct bytes begin = room(sizeof magic - 1);
     uint64_t length;
-    const char *path =
-        *zone == '/' ? zone : path_in(folder && *folder ? folder : database, zone);
+    const char *path = *zone == '/' ? zone : path_in(folder && *folder ? folder : database, zone);
     struct stat status;
     return stat(path, &status) == 0 && S_ISREG(status.st_mode) && access(path, R_OK) == 0 &&
            read_part(path, 0, begin, &length) && !memcmp(begin.at, magic, begin.length);
