@@ -138,8 +138,8 @@ static int make_file(const struct folder *folder, const char *name, mode_t mode)
     return file;
 }
 
-int try_prepare(const struct folder *folder, const char *name, mode_t mode, const struct piece *pieces,
-                int count)
+int try_prepare(const struct folder *folder, const char *name, mode_t mode,
+                const struct piece *pieces, int count)
 {
     const char *beside = text("%s.new", name);
     uint64_t length = 0;

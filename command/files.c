@@ -219,9 +219,10 @@ static struct bytes read_up_to(const char *path, size_t most)
 {
     struct stat status = {0}, standard;
     int file = is_standard_input(path) ? STDIN_FILENO : open_input(path, 0, &status);
-    struct bytes bytes = room((S_ISREG(status.st_mode) && (uint64_t)status.st_size < most
-                                   ? (size_t)status.st_size
-                                   : most) + 1);
+    struct bytes bytes =
+        room((S_ISREG(status.st_mode) && (uint64_t)status.st_size < most ? (size_t)status.st_size
+                                                                         : most) +
+             1);
     size_t done = 0;
     if (file == STDIN_FILENO && fstat(file, &standard) == 0)
         note_read(&standard);

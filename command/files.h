@@ -97,8 +97,8 @@ void prepare(const struct folder *folder, const char *name, mode_t mode, const s
              int count);
 
 /* The same, but a fault only removes NAME.new. Returns whether it is written; errno says why not. */
-int try_prepare(const struct folder *folder, const char *name, mode_t mode, const struct piece *pieces,
-                int count);
+int try_prepare(const struct folder *folder, const char *name, mode_t mode,
+                const struct piece *pieces, int count);
 
 /* NAME.new takes the place of NAME; a file is removed. Both are on the disk then. */
 void place(const struct folder *folder, const char *name);
