@@ -5,7 +5,7 @@
 # make lib                the archive and its headers in target/legbaro: code for plain x86-64, with AVX2 and with AVX-512, and a choice between them
 # make lib CPU=NAME       the archive with one variant alone, in target/legbaro-NAME; NAME is x86-64, avx2 or avx512
 #                         CPU=NAME goes with command, demo, week, install and compare too
-# make install PREFIX=    command, manual page, bash completion, headers, archive and pkg-config file below PREFIX, /usr/local where none is given
+# make install PREFIX=    command, manual page, completion, headers, archive and pkg-config file below PREFIX, /usr/local where none is given
 # make test               the gate: proves every crate, tries the edits that must be refused, runs the programs and the C tests
 # make compare            the C tests alone: the library against the reference implementation
 # make try-command        the command's tests alone: command/tests
@@ -78,6 +78,8 @@ install: lib command
 	install -D -m 755 $(OUT)/legbaro $(DESTDIR)$(PREFIX)/bin/legbaro
 	install -D -m 644 command/legbaro.1 $(DESTDIR)$(PREFIX)/share/man/man1/legbaro.1
 	install -D -m 644 command/completion.bash $(DESTDIR)$(PREFIX)/share/bash-completion/completions/legbaro
+	install -D -m 644 command/completion.zsh $(DESTDIR)$(PREFIX)/share/zsh/site-functions/_legbaro
+	install -D -m 644 command/completion.fish $(DESTDIR)$(PREFIX)/share/fish/vendor_completions.d/legbaro.fish
 	install -D -m 644 -t $(DESTDIR)$(PREFIX)/include $(LIB)/legbaro.h
 	install -D -m 644 -t $(DESTDIR)$(PREFIX)/include/legbaro $(LIB)/legbaro/*.h
 	install -D -m 644 $(LIB)/liblegbaro.a $(DESTDIR)$(PREFIX)/lib/liblegbaro.a

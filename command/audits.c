@@ -1,4 +1,4 @@
-/* Audits, the owner's side: draw, wait, judge, cause. */
+/* Audits, the owner's side: draw, judge, cause. */
 #include "codes.h"
 #include "commands.h"
 #include "owner.h"
@@ -8,7 +8,7 @@
 
 #include <inttypes.h>
 
-/* ---- Draw and wait ---- */
+/* ---- Draw ---- */
 
 /* Where the plan allows no draw, the wait is told with the refusal. */
 static void refuse_draw(const struct options *o, const struct plan *plan, uint64_t result)
@@ -90,26 +90,10 @@ int run_draw(const struct options *o)
     if (result != LEGBARO_OK)
         refuse_draw(o, &plan, result);
     settle(&owner);
+    owner.entry.token = in_card(owner.card, LEGBARO_CARD_OPEN, 4);
     prepare(&owner.folder, "message", 0600, &piece, 1);
     store_card(&owner);
     tell_drawn(o, &owner);
-    return ended(DONE);
-}
-
-int run_wait(const struct options *o)
-{
-    struct plan plan = read_plan(o);
-    uint64_t result = legbaro_wait(plan.bytes, sizeof plan.bytes, plan.year, plan.month, plan.day, plan.minute);
-    if (LEGBARO_CODE(result) != LEGBARO_OK)
-        turn_away(result, "--at");
-    uint64_t minutes = LEGBARO_NUMBER(result);
-    field("minutes", minutes);
-    if (minutes == 0)
-        say("a draw is allowed now");
-    else if (minutes == LEGBARO_WEEK_MINUTES)
-        say("%s allows no draw at all", plan.path);
-    else
-        say("a draw is allowed in %s (%" PRIu64 " minutes)", wait_words(minutes), minutes);
     return ended(DONE);
 }
 
@@ -154,7 +138,7 @@ static void refuse_unjudged(const struct options *o, uint64_t cause)
 static void tell_verdict(const struct owner *owner, enum status status, uint64_t token, uint64_t cause)
 {
     field("token", token);
-    field_text("verdict", status == DONE ? "accepted" : "rejected");
+    field_text("verdict", verdict_word(status));
     if (status == DONE)
         say("ACCEPTED: the host holds every block in the rows that token %" PRIu64 " draws", token);
     else
@@ -177,6 +161,9 @@ int run_judge(const struct options *o)
     uint64_t result = legbaro_judge(o->role, LENT(owner.master), LENT(owner.card), LENT(reply));
     enum status status = result == LEGBARO_OK ? DONE : REJECTED;
     settle(&owner);
+    owner.entry.token = token;
+    owner.entry.verdict = verdict_word(status);
+    owner.entry.cause = cause;
     prepare_card(&owner);
     tell_verdict(&owner, status, token, cause);
     ended(status);

@@ -184,6 +184,7 @@ static int finish(struct making *m)
     m->change.counter = last_issued(m->owner.card);
     m->change.blocks = m->blocks;
     settle(&m->owner);
+    m->owner.entry.totals = m->totals.at;
     prepare(&m->owner.folder, "change", 0600, change_pieces(&m->change), CHANGE_PIECES);
     store_card(&m->owner);
     tell(m);

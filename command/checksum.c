@@ -24,7 +24,9 @@ static const char *read_line(const struct folder *folder)
     if (!is_in(folder, name))
         return NULL;
     struct bytes file = map_file(path_in(folder->path, name));
-    return file.length == LINE_BYTES ? text("%.*s", LINE_BYTES, (const char *)file.at) : "";
+    const char *line = file.length == LINE_BYTES ? text("%.*s", LINE_BYTES, (const char *)file.at) : "";
+    unmap(file);
+    return line;
 }
 
 static int is_first(const char *line, struct bytes card)

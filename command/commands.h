@@ -4,7 +4,7 @@
 
 #include "options.h"
 
-/* The owner's: set_up.c, changes.c, audits.c, show.c. */
+/* The owner's: set_up.c, changes.c, audits.c, wait.c, show.c. */
 int run_key(const struct options *options);
 int run_set_up(const struct options *options);
 int run_append(const struct options *options);
@@ -19,6 +19,12 @@ int run_wait(const struct options *options);
 int run_judge(const struct options *options);
 int run_cause(const struct options *options);
 int run_show(const struct options *options);
+
+/* Of several folders, and of what happened: status.c, log.c, page.c. The list of commands: main.c. */
+int run_status(const struct options *options);
+int run_log(const struct options *options);
+int run_report(const struct options *options);
+int run_help(const struct options *options);
 
 /* The host's: apply.c, prove.c. */
 int run_apply(const struct options *options);

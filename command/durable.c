@@ -138,8 +138,8 @@ static int make_file(const struct folder *folder, const char *name, mode_t mode)
     return file;
 }
 
-void prepare(const struct folder *folder, const char *name, mode_t mode, const struct piece *pieces,
-             int count)
+int try_prepare(const struct folder *folder, const char *name, mode_t mode,
+                const struct piece *pieces, int count)
 {
     const char *beside = text("%s.new", name);
     uint64_t length = 0;
@@ -152,12 +152,22 @@ void prepare(const struct folder *folder, const char *name, mode_t mode, const s
     if (whole && sync_file(file) && close(file) == 0) {
         progress_over();
         note_prepared(folder, beside);
-        return;
+        return 1;
     }
     int fault = errno;
     progress_over();
     if (file >= 0)
         unlinkat(folder->at, beside, 0);
+    errno = fault;
+    return 0;
+}
+
+void prepare(const struct folder *folder, const char *name, mode_t mode, const struct piece *pieces,
+             int count)
+{
+    if (try_prepare(folder, name, mode, pieces, count))
+        return;
+    int fault = errno;
     undo_prepared();
     errno = fault;
     file_fault("write", path_in(folder->path, name));

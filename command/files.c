@@ -138,6 +138,7 @@ static int open_input(const char *path, int how, struct stat *status)
     if (file < 0 || fstat(file, status) != 0)
         file_fault("read", path);
     if (S_ISDIR(status->st_mode)) {
+        close(file);
         errno = EISDIR;
         file_fault("read", path);
     }
@@ -150,6 +151,7 @@ static int open_regular(const char *path, struct stat *status)
 {
     int file = open_input(path, O_NONBLOCK, status);
     if (!S_ISREG(status->st_mode)) {
+        close(file);
         about(path);
         refuse(BAD_FILE, "Write it to a file first, and name that. Nothing has changed.",
                "can't read %s: it is a pipe or a device, and a file is needed here", path);
@@ -217,7 +219,10 @@ static struct bytes read_up_to(const char *path, size_t most)
 {
     struct stat status = {0}, standard;
     int file = is_standard_input(path) ? STDIN_FILENO : open_input(path, 0, &status);
-    struct bytes bytes = room(most + 1);
+    struct bytes bytes =
+        room((S_ISREG(status.st_mode) && (uint64_t)status.st_size < most ? (size_t)status.st_size
+                                                                         : most) +
+             1);
     size_t done = 0;
     if (file == STDIN_FILENO && fstat(file, &standard) == 0)
         note_read(&standard);
@@ -226,8 +231,8 @@ static struct bytes read_up_to(const char *path, size_t most)
         close(file);
         return bytes;
     }
-    while (done <= most) {
-        ssize_t got = read(file, bytes.at + done, most + 1 - done);
+    while (done < bytes.length) {
+        ssize_t got = read(file, bytes.at + done, bytes.length - done);
         if (got < 0 && errno == EINTR)
             continue;
         if (got < 0)
@@ -261,6 +266,12 @@ struct bytes small_whole(const char *path, uint64_t length, const char *what, co
         refuse_length(path, text(bytes.length == most + 1 ? "%zu or more" : "%zu", bytes.length),
                       what, length, next);
     return bytes;
+}
+
+void unmap(struct bytes mapped)
+{
+    if (mapped.length)
+        munmap(mapped.at, mapped.length);
 }
 
 struct bytes copy_of(struct bytes mapped)

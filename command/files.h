@@ -34,6 +34,9 @@ void put_number(uint8_t *at, unsigned width, uint64_t number);
 struct bytes map_file(const char *path);
 struct bytes map_whole(const char *path, uint64_t length, const char *what, const char *next);
 
+/* Gives back what map_file or shared_room gave out, before the program ends. */
+void unmap(struct bytes mapped);
+
 /* Reads the bytes of a regular file from an offset on into `bytes`, and writes the file's length.
  * Returns 0 where the file is shorter than that. */
 int read_part(const char *path, uint64_t offset, struct bytes bytes, uint64_t *length);
@@ -92,6 +95,10 @@ struct piece {
  * something was placed since. */
 void prepare(const struct folder *folder, const char *name, mode_t mode, const struct piece *pieces,
              int count);
+
+/* The same, but a fault only removes NAME.new. Returns whether it is written; errno says why not. */
+int try_prepare(const struct folder *folder, const char *name, mode_t mode,
+                const struct piece *pieces, int count);
 
 /* NAME.new takes the place of NAME; a file is removed. Both are on the disk then. */
 void place(const struct folder *folder, const char *name);

@@ -1,6 +1,7 @@
 /* See host.h. */
 #define _GNU_SOURCE
 #include "host.h"
+#include "journal.h"
 #include "progress.h"
 #include "report.h"
 
@@ -40,10 +41,21 @@ static int open_in(const struct host *host, const char *name)
     return file;
 }
 
-static void now_stands(struct host *host, const struct change *change)
+/* Writes the line of the journal for a change that is about to stand. Returns the line. */
+static const char *prepare_apply(const struct host *host, const struct change *change)
 {
+    const struct entry entry = {.command = "apply"};
+    struct standing after = standing_of_host(change);
+    return prepare_line(&host->folder, &entry, &after);
+}
+
+/* A change stands, and has its line in the journal. */
+static void now_stands(struct host *host, const struct change *change, const char *line)
+{
+    struct standing now = standing_of_host(change);
     host->begun = 1;
     host->stands = *change;
+    settle_journal(&host->folder, &now, line);
 }
 
 /* ---- Comparing ---- */
@@ -136,6 +148,7 @@ void begin_file(struct host *host, const struct change *c)
         if (!there[i])
             prepare(&host->folder, names[i], 0666, &piece, 1);
     }
+    const char *line = prepare_apply(host, c);
     prepare(&host->folder, "stands", 0666, header_piece(c), 1);
     decided("The change may be half in place. Mend what is wrong, and run the same command again: "
             "it goes on from there.");
@@ -143,7 +156,7 @@ void begin_file(struct host *host, const struct change *c)
         if (!there[i])
             place(&host->folder, names[i]);
     place(&host->folder, "stands");
-    now_stands(host, c);
+    now_stands(host, c, line);
 }
 
 /* ---- Blocks that are added ---- */
@@ -217,8 +230,9 @@ static void put_applying(struct host *host, const struct change *c)
     if (has_marks(c))
         write_each(host, "marks", c, marks_of(c), 1);
     store(&host->folder, "table", 0666, &table, 1);
+    const char *line = prepare_apply(host, c);
     store(&host->folder, "stands", 0666, header_piece(c), 1);
-    now_stands(host, c);
+    now_stands(host, c, line);
     take_away(&host->folder, "applying");
     if (is_in(&host->folder, "adding"))
         take_away(&host->folder, "adding");
@@ -288,6 +302,10 @@ void complete(struct host *host)
         host->half = 0;
     } else if (host->begun && !host->damaged) {
         undo_adding(host);
+    }
+    if (host->begun && is_journal_unsettled(&host->folder)) {
+        struct standing now = standing_of_host(&host->stands);
+        settle_journal(&host->folder, &now, NULL);
     }
 }
 

@@ -1,8 +1,12 @@
 /* legbaro: provable data possession of a car park's tick file, for owners and hosts. The manual is legbaro(1). */
 #define _GNU_SOURCE
 #include "commands.h"
+#include "files.h"
+#include "help.h"
 #include "progress.h"
 #include "report.h"
+
+#include "legbaro.h"
 
 #include <signal.h>
 #include <stdio.h>
@@ -11,6 +15,8 @@
 #include <unistd.h>
 
 #define CHANGES " role host key progress "
+enum { MOST_WORDS = 1 << 20 };
+
 #define CORRECTIONS " role host key progress old mark "
 
 static const struct command commands[] = {
@@ -35,6 +41,9 @@ static const struct command commands[] = {
     {"judge", " role key close ", 1, 1, "REPLY", "judge the host's reply", run_judge},
     {"judge-pool", " role key close ", 3, 17, "REPLY FOLDER..", "judge one reply for several files", run_judge_pool},
     {"show", " ", 0, 0, "", "a card, or what stands at the host, in words", run_show},
+    {"status", " every plan at ", 1, MOST_WORDS, "FOLDER..", "which files need attention, and what to do", run_status},
+    {"log", " since audits ", 0, MOST_WORDS, "[JOURNAL..]", "what happened in a folder, newest last", run_log},
+    {"report", " html every plan at force ", 1, MOST_WORDS, "FOLDER..", "a page with the status and history of files", run_report},
     {"apply", " check committed progress ", 0, 1, "[CHANGE]", "host: put a change in place", run_apply},
     {"prove", " out force ", 1, 1, "MESSAGE", "host: answer a message", run_prove},
     {"pool", " out force ", 2, 16, "REPLY..", "host: make one reply of several", run_pool},
@@ -45,19 +54,12 @@ static const struct command commands[] = {
     {"parity check", " block-bytes data parity blocks ", 2, 2, "BLOCKS PARITY", "whether blocks and parity agree", run_parity_check},
     {"parity rebuild", " block-bytes data parity blocks lost lost-parity out force ", 2, 2, "BLOCKS PARITY", "lost blocks from the others",
      run_parity_rebuild},
+    {"help", " complete ", 0, MOST_WORDS, "[COMMAND]", "all commands, or the options of one", run_help},
 };
 
-enum { COMMANDS = sizeof commands / sizeof *commands };
+static const struct commands all = {commands, sizeof commands / sizeof *commands};
 
-static int help(void)
-{
-    puts("usage: legbaro [-C FOLDER] COMMAND [OPTION..] [WORD..]\n");
-    for (int i = 0; i < COMMANDS; i++)
-        printf("  %-15s %-15s %s\n", commands[i].name, commands[i].words, commands[i].purpose);
-    puts("\nEvery command takes -C FOLDER, the owner's or the host's folder, and --json. The manual is legbaro(1).\n"
-         "Exit status: 0 done or accepted, 1 rejected or parity does not agree, 2 refused, 3 wrong use, 4 a file can't be read or written.");
-    return ended(DONE);
-}
+static const char *const see = "Run 'legbaro help' for the list of commands.";
 
 /* A file that another program cuts while it is mapped. */
 static void cut(int signal)
@@ -81,18 +83,6 @@ static int named(const struct command *command, int count, char **given)
     return count > 1 && !strcmp(given[1], second + 1) ? 2 : 0;
 }
 
-/* The options of one command, as they are written. */
-static int help_with(const struct command *command)
-{
-    printf("usage: legbaro %s [-C FOLDER] [--json]", command->name);
-    for (const char *at = command->options; at[1]; at = strchr(at + 1, ' ')) {
-        int length = (int)strcspn(at + 1, " ");
-        printf(" [--%.*s%s]", length, at + 1, option_value(at + 1, length));
-    }
-    printf("%s%s\n%s. The manual is legbaro(1).\n", *command->words ? " " : "", command->words, command->purpose);
-    return ended(DONE);
-}
-
 static int asks_for(const char *option, int count, char **given)
 {
     for (int i = 0; i < count; i++)
@@ -101,46 +91,84 @@ static int asks_for(const char *option, int count, char **given)
     return 0;
 }
 
-static int run(int count, char **given, const char *folder)
+/* Ends the program where the words begin with no command. */
+static void refuse_command(const char *first, const char *second)
 {
-    int json = asks_for("--json", count, given);
-    report_as(given[0], json);
-    for (int i = 0; i < COMMANDS; i++) {
-        int words = named(&commands[i], count, given);
+    const char *both = second ? text("%s %s", first, second) : first, *meant = nearest(&all, both);
+    if (!meant)
+        meant = nearest(&all, first);
+    refuse(WRONG_USE, meant ? text("Is 'legbaro %s' meant? %s", meant, see) : see,
+           "there is no command '%s'", both);
+}
+
+int run_help(const struct options *o)
+{
+    const char *name = o->count > 1 ? text("%s %s", o->words[0], o->words[1]) : o->words[0];
+    if (o->complete)
+        complete_words(&all, o->count, o->words);
+    else if (!o->count)
+        help_all(&all);
+    else if (o->count <= 2 && command_of(&all, name))
+        help_one(command_of(&all, name));
+    else if (o->count != 1 || !help_family(&all, name))
+        refuse_command(name, NULL);
+    return ended(DONE);
+}
+
+/* Runs the command that the words begin with; options that came before it come after it now. */
+static int run(int before, int count, char **given)
+{
+    char **from = given + before;
+    int json = asks_for("--json", count, given), left = count - before;
+    report_as(from[0], json);
+    for (int i = 0; i < all.count; i++) {
+        int words = named(&commands[i], left, from);
         if (!words)
             continue;
-        if (asks_for("--help", count, given))
-            return help_with(&commands[i]);
+        if (asks_for("--help", count, given) || asks_for("-h", count, given)) {
+            help_one(&commands[i]);
+            return ended(DONE);
+        }
         report_as(commands[i].name, json);
+        memmove(given + words, given, (size_t)before * sizeof *given);
         struct options options = read_options(&commands[i], count - words, given + words);
-        if (folder && !strcmp(options.folder, "."))
-            options.folder = folder;
+        speak(options.quiet ? QUIET : options.verbose ? VERBOSE : NORMAL);
         if (options.progress)
             always_show_progress();
         return commands[i].run(&options);
     }
-    int second = count > 1 && given[1][0] != '-';
-    refuse(WRONG_USE, "'legbaro help' tells the commands.", "there is no command '%s%s%s'", given[0], second ? " " : "",
-           second ? given[1] : "");
+    refuse_command(from[0], left > 1 && from[1][0] != '-' ? from[1] : NULL);
     return WRONG_USE;
+}
+
+/* How many words come before the command: options and their values. */
+static int options_before(int count, char **given)
+{
+    int at = 0;
+    while (at < count && given[at][0] == '-' && given[at][1])
+        at += takes_next(given[at]) ? 2 : 1;
+    return at;
 }
 
 int main(int count, char **given)
 {
-    const char *folder = NULL;
     struct sigaction action = {.sa_handler = cut};
     sigaction(SIGBUS, &action, NULL);
     signal(SIGXFSZ, SIG_IGN); /* a write past the limit of a file's size fails with EFBIG then */
     given++;
     count--;
-    if (count > 1 && !strcmp(given[0], "-C")) {
-        folder = given[1];
-        given += 2;
-        count -= 2;
+    if (count && (!strcmp(given[0], "-V") || (!strcmp(given[0], "--version") && count == 1))) {
+        puts("legbaro " LEGBARO_VERSION);
+        return ended(DONE);
     }
-    if (!count)
-        refuse(WRONG_USE, "'legbaro help' tells the commands.", "no command is named");
-    if (!strcmp(given[0], "help") || !strcmp(given[0], "--help") || !strcmp(given[0], "-h"))
-        return help();
-    return run(count, given, folder);
+    int before = options_before(count, given);
+    if (before < count)
+        return run(before, count, given);
+    if (asks_for("--help", count, given) || asks_for("-h", count, given)) {
+        help_all(&all);
+        return ended(DONE);
+    }
+    report_as("", asks_for("--json", count, given));
+    refuse(WRONG_USE, see, "no command is named");
+    return WRONG_USE;
 }

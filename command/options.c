@@ -45,6 +45,13 @@ static const struct option {
     {"force", FLAG, offsetof(struct options, force)},
     {"again", FLAG, offsetof(struct options, again)},
     {"close", FLAG, offsetof(struct options, close)},
+    {"since", TEXT, offsetof(struct options, since)},
+    {"html", TEXT, offsetof(struct options, html)},
+    {"every", NUMBER, offsetof(struct options, every)},
+    {"audits", FLAG, offsetof(struct options, audits)},
+    {"complete", FLAG, offsetof(struct options, complete)},
+    {"quiet", FLAG, offsetof(struct options, quiet)},
+    {"verbose", FLAG, offsetof(struct options, verbose)},
 };
 
 static const char *const see = "'legbaro help' and legbaro(1) tell the commands and their options.";
@@ -58,21 +65,6 @@ int read_number(const char *digits, uint64_t *number)
         return 0;
     *number = strtoull(digits, NULL, 10);
     return 1;
-}
-
-const char *option_value(const char *name, int length)
-{
-    static const char *const of_kind[] = {" FILE", " NUMBER", " ROLE", " MARK", ""};
-    static const char *const texts[][2] = {
-        {"host", " FOLDER"}, {"at", " TIME"}, {"id", " ID"}, {"lost", " LIST"}, {"lost-parity", " LIST"}};
-    const char *exact = text("%.*s", length, name);
-    for (size_t i = 0; i < sizeof texts / sizeof *texts; i++)
-        if (!strcmp(exact, texts[i][0]))
-            return texts[i][1];
-    for (size_t i = 0; i < sizeof all / sizeof *all; i++)
-        if (!strcmp(exact, all[i].name))
-            return of_kind[all[i].kind];
-    return "";
 }
 
 /* One of some words, which stand for numbers from first on, or a number. */
@@ -115,20 +107,38 @@ static const struct option *option_of(const struct command *command, const char 
     size_t length = strcspn(name, "=");
     for (size_t i = 0; i < sizeof all / sizeof *all; i++)
         if (strlen(all[i].name) == length && !strncmp(all[i].name, name, length) &&
-            (!strcmp(all[i].name, "json") || strstr(command->options, text(" %s ", all[i].name))))
+            (strstr(" json quiet verbose ", text(" %s ", all[i].name)) ||
+             strstr(command->options, text(" %s ", all[i].name))))
             return &all[i];
     refuse(WRONG_USE, see, "'legbaro %s' has no option --%.*s", command->name, (int)length, name);
     return NULL;
 }
 
+/* A short option in full: -q and -v; another word as it is. */
+static const char *in_full(const char *word)
+{
+    return !strcmp(word, "-q") ? "--quiet" : !strcmp(word, "-v") ? "--verbose" : word;
+}
+
+int takes_next(const char *word)
+{
+    if (!strcmp(word, "-C"))
+        return 1;
+    for (size_t i = 0; i < sizeof all / sizeof *all; i++)
+        if (!strncmp(word, "--", 2) && !strcmp(word + 2, all[i].name))
+            return all[i].kind != FLAG;
+    return 0;
+}
+
 /* Reads the option at given[i]; answers the place of its last word. */
 static int read_option(const struct command *command, struct options *o, int i, int count, char **given)
 {
-    int folder = !strcmp(given[i], "-C");
-    if (!folder && strncmp(given[i], "--", 2))
-        refuse(WRONG_USE, see, "'legbaro %s' has no option %s", command->name, given[i]);
-    const struct option *option = folder ? NULL : option_of(command, given[i] + 2);
-    const char *value = folder ? NULL : strchr(given[i], '=');
+    const char *word = in_full(given[i]);
+    int folder = !strcmp(word, "-C");
+    if (!folder && strncmp(word, "--", 2))
+        refuse(WRONG_USE, see, "'legbaro %s' has no option %s", command->name, word);
+    const struct option *option = folder ? NULL : option_of(command, word + 2);
+    const char *value = folder ? NULL : strchr(word, '=');
     if (option && option->kind == FLAG) {
         if (value)
             refuse(WRONG_USE, see, "--%s takes no value", option->name);
@@ -150,6 +160,7 @@ struct options read_options(const struct command *command, int count, char **giv
     struct options o = {.folder = ".", .role = LEGBARO_PLANNER, .version = LEGBARO_TWO_STEPS, .mark = UNTOLD, .words = given};
     int only_words = 0;
     o.block_bytes = o.rows = o.positions = o.tokens = o.blocks = o.damaged = o.data = o.parity = UNTOLD;
+    o.every = UNTOLD;
     o.asked = !strncmp(command->name, "ask ", 4);
     for (int i = 0; i < count; i++)
         if (!only_words && !strcmp(given[i], "--"))

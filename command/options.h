@@ -13,12 +13,14 @@ struct options {
         *committed;
     uint64_t role, version, mark, block_bytes, rows, positions, tokens, blocks, damaged, data, parity;
     uint64_t json, progress, check, force, again, close;
+    const char *since, *html;
+    uint64_t every, audits, complete, quiet, verbose;
     int asked; /* the command begins with 'ask' */
     char **words;
     int count;
 };
 
-/* A command: its name, the options that it has beside -C and --json, each between blanks, how many words it takes and what they are, what
+/* A command: its name, the options that it has beside those that every command has, each between blanks, how many words it takes and what they are, what
  * it is for, and what it does, which answers the exit status. */
 struct command {
     const char *name, *options;
@@ -30,9 +32,8 @@ struct command {
 /* Reads the arguments behind a command's name. They lie in place of the others then: words first. */
 struct options read_options(const struct command *command, int count, char **given);
 
-/* What an option takes, for a usage line: a blank and a word, or an empty text where it takes nothing.
- * The name has so many letters. */
-const char *option_value(const char *name, int length);
+/* Whether a word is an option whose value is the next word. */
+int takes_next(const char *word);
 
 /* A number of decimal digits alone; answers whether it is one. */
 int read_number(const char *digits, uint64_t *number);

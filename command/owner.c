@@ -125,7 +125,7 @@ int is_unsettled(const struct owner *owner)
 {
     const struct folder *folder = &owner->folder;
     return is_in(folder, "card.new") || is_in(folder, "card.sum.new") || is_in(folder, "change.new") || is_in(folder, "message.new") ||
-           is_in(folder, "committed.new") ||
+           is_in(folder, "committed.new") || is_journal_unsettled(folder) ||
            is_dropped_change(folder, owner->before) ||
            (is_in(folder, "message") && !is_open_message(folder, "message", owner->before));
 }
@@ -134,6 +134,7 @@ void settle(const struct owner *owner)
 {
     const struct folder *folder = &owner->folder;
     struct bytes card = owner->before;
+    struct standing now = standing_of_card(card);
     settle_checksum(folder, card);
     if (is_in(folder, "card.new"))
         take_away(folder, "card.new");
@@ -146,11 +147,14 @@ void settle(const struct owner *owner)
     if (is_in(folder, "message") && !is_open_message(folder, "message", card))
         let_go(owner, "message");
     settle_receipt(folder, card);
+    settle_journal(folder, &now, owner->line);
 }
 
-void prepare_card(const struct owner *owner)
+void prepare_card(struct owner *owner)
 {
     const struct piece piece = {owner->card.at, owner->card.length};
+    struct standing after = standing_of_card(owner->card);
+    owner->line = prepare_line(&owner->folder, &owner->entry, &after);
     prepare(&owner->folder, "card", 0600, &piece, 1);
     prepare_checksum(&owner->folder, owner->card, owner->before);
 }
@@ -222,12 +226,14 @@ struct bytes read_card(const char *folder)
                card.length, version, LEGBARO_WRONG_HEADER);
     }
     check_limits(path, card);
-    return copy_of(card);
+    struct bytes copy = copy_of(card);
+    unmap(card);
+    return copy;
 }
 
 struct owner open_card(const char *path)
 {
-    struct owner owner = {.folder = lock_folder(path, 0)};
+    struct owner owner = {.folder = lock_folder(path, 0), .entry = {.command = command_name()}};
     owner.card = read_card(path);
     owner.before = copy_of(owner.card);
     enum newest newest = is_newest(&owner.folder, owner.card);
@@ -248,6 +254,7 @@ struct owner open_card(const char *path)
 struct owner open_owner(const struct options *options, int with_key)
 {
     struct owner owner = open_card(options->folder);
+    owner.entry.role = options->role;
     if (with_key)
         owner.master = read_master(options);
     return owner;

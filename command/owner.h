@@ -14,6 +14,7 @@
 #define OWNER_H
 
 #include "files.h"
+#include "journal.h"
 #include "options.h"
 
 struct owner {
@@ -21,6 +22,8 @@ struct owner {
     struct bytes master, card; /* card: a copy, which calls write */
     struct bytes before;       /* the card as it is in the folder */
     int newest;                /* whether its checksum says that it is the newest */
+    struct entry entry;        /* what the command adds to its line of the journal */
+    const char *line;          /* that line, once the card is prepared */
 };
 
 /* Opens the folder and locks it, reads the card and, where a call takes it, the key; writes nothing. What is wrong with the card or with
@@ -48,7 +51,7 @@ void settle(const struct owner *owner);
 int is_unsettled(const struct owner *owner);
 
 /* Prepares the card and its checksum; puts them in the places of those before, and settles. store_card does both. */
-void prepare_card(const struct owner *owner);
+void prepare_card(struct owner *owner);
 void place_card(struct owner *owner);
 void store_card(struct owner *owner);
 

@@ -1,6 +1,7 @@
 /* See plan.h. */
 #define _GNU_SOURCE
 #include "plan.h"
+#include "clock.h"
 #include "files.h"
 #include "report.h"
 
@@ -21,10 +22,7 @@ enum { DAYS = 7, WINDOW_BYTES = 4, HOUR = 60 };
 
 static void read_clock(struct plan *plan)
 {
-    time_t now = time(NULL);
-    struct tm clock;
-    if (!localtime_r(&now, &clock))
-        refuse(WRONG_USE, "Give the time with --at.", "the clock can't be read");
+    struct tm clock = local_time(clock_now());
     plan->year = (uint64_t)clock.tm_year + 1900;
     plan->month = (uint64_t)clock.tm_mon + 1;
     plan->day = (uint64_t)clock.tm_mday;

@@ -100,10 +100,12 @@ static struct bytes joined(const struct pool *pool)
     return cards;
 }
 
-static void prepare_cards(struct pool *pool, struct bytes cards)
+static void prepare_cards(struct pool *pool, struct bytes cards, struct entry entry)
 {
     for (int i = 0; i < pool->count; i++) {
         struct bytes card = pool->owners[i].card;
+        entry.token = in_card(card, LEGBARO_CARD_OPEN, 4);
+        pool->owners[i].entry = entry;
         memcpy(card.at, cards.at, card.length);
         cards.at += card.length;
         settle(&pool->owners[i]);
@@ -163,9 +165,12 @@ int run_judge_pool(const struct options *o)
     enum status status = result == LEGBARO_OK ? DONE : REJECTED;
     if (result != LEGBARO_OK && LEGBARO_CODE(result) != LEGBARO_REJECTED)
         turn_away(result, "the cards");
-    prepare_cards(&pool, cards);
+    const struct entry entry = {.command = command_name(), .verdict = verdict_word(status),
+                                .role = o->role, .cause = status == DONE ? 0 : LEGBARO_CAUSE_DIGEST,
+                                .pool = (uint64_t)pool.count};
+    prepare_cards(&pool, cards, entry);
     field("files", (uint64_t)pool.count);
-    field_text("verdict", status == DONE ? "accepted" : "rejected");
+    field_text("verdict", verdict_word(status));
     if (status == DONE)
         say("ACCEPTED: the reply fits the tokens drawn for %d files, taken together", pool.count);
     else

@@ -1,6 +1,7 @@
 /* The command prove, the host's. */
 #include "commands.h"
 #include "host.h"
+#include "journal.h"
 #include "output.h"
 #include "report.h"
 #include "tell.h"
@@ -60,6 +61,16 @@ static const char *subject(const struct options *o, uint64_t code)
                                           : input_words(o->words[0]);
 }
 
+/* Writes a line into the journal of a host that has one: where it is known what stands. */
+static void note_proof(const struct host *host, uint64_t token, const uint8_t *totals)
+{
+    const struct entry entry = {.command = command_name(), .token = token, .totals = totals};
+    if (!host->begun)
+        return;
+    struct standing now = standing_of_host(&host->stands);
+    add_line(&host->folder, &entry, &now);
+}
+
 int run_prove(const struct options *o)
 {
     struct bytes message = small_whole(o->words[0], LEGBARO_MESSAGE_BYTES, "a message",
@@ -77,6 +88,7 @@ int run_prove(const struct options *o)
     if (result != LEGBARO_OK)
         turn_away(result, subject(o, LEGBARO_CODE(result)));
     write_output(&out, &piece, 1);
+    note_proof(&host, number_at(message.at + TOKEN, 4), totals.at);
     field("token", number_at(message.at + TOKEN, 4));
     field_text("file", out.path);
     say("token %" PRIu64 " is answered", number_at(message.at + TOKEN, 4));

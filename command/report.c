@@ -2,11 +2,13 @@
 #define _GNU_SOURCE
 #include "report.h"
 #include "codes.h"
+#include "colour.h"
 #include "files.h"
 #include "legbaro.h"
 
 #include <errno.h>
 #include <inttypes.h>
+#include <setjmp.h>
 #include <stdarg.h>
 #include <stdio.h>
 #include <stdlib.h>
@@ -18,15 +20,32 @@ enum { MOST_FIELDS = 24 };
 static struct {
     const char *name, *words;
     uint64_t number;
+    int is_list; /* the words are JSON already */
 } fields[MOST_FIELDS];
 
 static int count, json, told = -1; /* told: the status that an object was printed with */
 static const char *command = "", *stands, *subject;
+static enum loudness loudness = NORMAL;
 
 void report_as(const char *name, int as_json)
 {
     command = name;
     json = as_json;
+}
+
+const char *command_name(void)
+{
+    return command;
+}
+
+void speak(enum loudness as)
+{
+    loudness = as;
+}
+
+enum loudness spoken(void)
+{
+    return loudness;
 }
 
 void about(const char *file)
@@ -47,12 +66,30 @@ int is_decided(void)
 void say(const char *format, ...)
 {
     va_list values;
-    if (json)
+    char *line = NULL;
+    if (json || loudness == QUIET)
         return;
     va_start(values, format);
-    vprintf(format, values);
+    if (vasprintf(&line, format, values) >= 0)
+        puts(colour_of(line));
     va_end(values);
-    putchar('\n');
+    free(line);
+}
+
+void note(const char *format, ...)
+{
+    va_list values;
+    fflush(stdout);
+    fputs("legbaro: ", stderr);
+    va_start(values, format);
+    vfprintf(stderr, format, values);
+    va_end(values);
+    fputs(".\n", stderr);
+}
+
+const char *verdict_word(enum status status)
+{
+    return status == DONE ? "accepted" : "rejected";
 }
 
 /* The place of a field: its own where it was told before. */
@@ -77,7 +114,16 @@ void field(const char *name, uint64_t number)
 
 void field_text(const char *name, const char *words)
 {
-    fields[place_of(name)].words = words;
+    int i = place_of(name);
+    fields[i].words = words;
+    fields[i].is_list = 0;
+}
+
+void field_list(const char *name, const char *list)
+{
+    int i = place_of(name);
+    fields[i].words = list;
+    fields[i].is_list = 1;
 }
 
 /* How many bytes the first character of a text has in UTF-8; 0 where it begins with no character:
@@ -146,7 +192,9 @@ int ended(enum status status)
             fputs(", ", stdout);
             print_name(fields[i].name);
             fputs(": ", stdout);
-            if (fields[i].words)
+            if (fields[i].words && fields[i].is_list)
+                fputs(fields[i].words, stdout);
+            else if (fields[i].words)
                 print_text(fields[i].words);
             else
                 printf("%" PRIu64, fields[i].number);
@@ -162,9 +210,38 @@ int ended(enum status status)
 
 /* ---- Refusals ---- */
 
+/* Where a refusal goes back to, while a call is attempted. */
+static jmp_buf *back;
+static struct refusal *caught;
+
+static int is_made(void (*call)(void *lent), void *lent, jmp_buf *to)
+{
+    if (setjmp(*to))
+        return 0;
+    call(lent);
+    return 1;
+}
+
+int attempt(void (*call)(void *lent), void *lent, struct refusal *refusal)
+{
+    int before = count;
+    jmp_buf here;
+    back = &here;
+    caught = refusal;
+    int made = is_made(call, lent, &here);
+    back = NULL;
+    count = before;
+    subject = NULL;
+    return made;
+}
+
 static void __attribute__((noreturn))
 refuse_in_words(enum status status, const char *next, const char *what)
 {
+    if (back) {
+        *caught = (struct refusal){status, text("%s", what), text("%s", next)};
+        longjmp(*back, 1);
+    }
     if (json) {
         if (subject)
             field_text("about", subject);

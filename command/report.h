@@ -10,6 +10,14 @@ enum status { DONE, REJECTED, TURNED_AWAY, WRONG_USE, BAD_FILE };
 /* Names the command, once its words are known, and whether it prints JSON. */
 void report_as(const char *command, int json);
 
+/* The command's name, as it was named. */
+const char *command_name(void);
+
+/* How much is said to people: nothing, what a command is asked for, or the totals too. */
+enum loudness { QUIET, NORMAL, VERBOSE };
+void speak(enum loudness loudness);
+enum loudness spoken(void);
+
 /* A line for people, on standard output; nothing with JSON. */
 void say(const char *format, ...) __attribute__((format(printf, 1, 2)));
 
@@ -20,6 +28,25 @@ void field_text(const char *name, const char *words);
 /* How many bytes the first character of a text has, in UTF-8. Returns 0 where it begins with a control
  * character, or with no character at all. */
 int plain_length(const char *words);
+
+/* A field that is JSON already: a list of objects. */
+void field_list(const char *name, const char *list);
+
+/* A sentence beside the command's own business, on standard error; with JSON too. */
+void note(const char *format, ...);
+
+/* The word of a verdict. */
+const char *verdict_word(enum status status);
+
+/* A refusal that was caught: what was wrong, and what to do next. */
+struct refusal {
+    enum status status;
+    const char *what, *next;
+};
+
+/* Makes a call that may be refused. Returns whether it was not; writes the refusal where it was. For
+ * calls that only read: what they have open or locked when they are refused stays so. */
+int attempt(void (*call)(void *lent), void *lent, struct refusal *refusal);
 
 /* Prints the object where JSON is asked for, and answers the status. */
 int ended(enum status status);

@@ -100,6 +100,7 @@ static void refuse_second(const struct folder *folder, const struct set_up *s)
 static void store_all(const struct folder *folder, const struct set_up *s)
 {
     struct owner owner = {.folder = *folder, .card = s->card, .before = room(0), .newest = 1};
+    owner.entry = (struct entry){.command = command_name(), .totals = s->totals.at};
     struct change change = change_from(s->card);
     change.blocks_before = 0;
     change.blocks_after = change.count = s->count;

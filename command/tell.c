@@ -39,7 +39,8 @@ void tell_totals(struct bytes totals)
     uint64_t turns = number_at(totals.at + LEGBARO_TOTALS_TURNS, 8), hashes = number_at(totals.at + LEGBARO_TOTALS_HASHES, 8);
     field("turns", turns);
     field("hashes", hashes);
-    say("work: %" PRIu64 " turns of the permutation, %" PRIu64 " hashes of blocks", turns, hashes);
+    if (spoken() == VERBOSE)
+        say("work: %" PRIu64 " turns of the permutation, %" PRIu64 " hashes of blocks", turns, hashes);
 }
 
 /* The least and the most blocks that an audit looks at: the hashes of a proof, by the planning sheet. */

@@ -5,12 +5,14 @@
   File       one file under test: its owner, and what its host may hold (two states after a kill, until a command settles it)
   World      the scratch folder: one key, the files, and the checks after each command
 """
+import json
 import os
 import random
 import re
 import signal
 import subprocess
 import time
+import zlib
 from dataclasses import dataclass, field
 
 import book
@@ -19,8 +21,8 @@ STOPPED, BAD_FILE = 77, 4
 REFUSED = frozenset((2, 3, 4))
 ENDS = ("stop", "torn", "power")
 ASIDE = re.compile(r"\.\d+$")
-OWNER_NAMES = {"card", "card.sum", "change", "message", "committed"}
-HOST_NAMES = {"blocks", "marks", "table", "stands", "reply"}
+OWNER_NAMES = {"card", "card.sum", "change", "message", "committed", "journal"}
+HOST_NAMES = {"blocks", "marks", "table", "stands", "reply", "journal"}
 HALF = ("adding", "applying")  # files of a host that are there while a change is half in place
 # What the command before issue 38 lacks: refusals that leave every byte, of owner and host; the checksum of the card; the receipt of a commit;
 # `judge` that leaves a draw open, and --close; `draw --again`; `show` that settles; a change that supersedes a damaged `applying`; outputs that
@@ -215,8 +217,17 @@ class World:
             late = not f.settled and name != "card" and now in f.stale[name] and (want is None or prepared == want)
             need(now == want or late, f.at, "has another", name, "than the book")
             need(not f.settled or prepared is None, f.at, "has a prepared", name, "that was settled")
+        if f.settled:
+            self.check_journal(f.at, "card")
         unknown = {name for name in names - OWNER_NAMES if not name.endswith(".new") and not ASIDE.search(name)}
         need(not unknown, f.at, "has unknown files", *unknown)
+
+    def check_journal(self, folder, name):
+        """The last line of a journal has the checksum of what stands, and no line has the key."""
+        journal, stands = self.snap.get(folder + "/journal", b""), self.snap.get(folder + "/" + name)
+        need(self.key not in journal and self.key.hex().encode() not in journal, folder, "has the key in its journal")
+        last = json.loads(journal.splitlines()[-1]) if journal else {}
+        need(last.get(name) == f"{zlib.crc32(stands):08x}", folder, "has a journal whose last line is of another", name)
 
     # ---- Hosts ----
 

@@ -158,7 +158,7 @@ ssize_t write(int file, const void *bytes, size_t length)
     REAL(ssize_t, write, int, const void *, size_t);
     enum outcome outcome = file > STDERR_FILENO ? next_call(1) : GO_ON;
     if (file > STDERR_FILENO)
-        remember_written(file, 1);
+        remember_written(file, !(fcntl(file, F_GETFL) & O_APPEND));
     if (outcome == HALF)
         return halved(real_write(file, bytes, (length + 1) / 2));
     return outcome == FAIL ? -1 : real_write(file, bytes, length);
