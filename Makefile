@@ -3,14 +3,14 @@
 # make week               one file's week in C on real files, and a month in one load, told step by step: examples/
 # make sheet              a planning sheet: room, reading, work and risk of a file from its numbers
 # make lib                the archive and its headers in target/legbaro: code for plain x86-64, with AVX2 and with AVX-512, and a choice between them
-# make lib CPU=NAME       the archive with one code alone, in target/legbaro-NAME; NAME is x86-64, avx2 or avx512
+# make lib CPU=NAME       the archive with one variant alone, in target/legbaro-NAME; NAME is x86-64, avx2 or avx512
 #                         CPU=NAME goes with command, demo, week, install and compare too
 # make install PREFIX=    command, manual page, bash completion, headers, archive and pkg-config file below PREFIX, /usr/local where none is given
 # make test               the gate: proves every crate, tries the edits that must be refused, runs the programs and the C tests
-# make compare            the C tests alone: the library against the second implementation
+# make compare            the C tests alone: the library against the reference implementation
 # make try-command        the command's tests alone: command/tests
-# make chosen             prints which code the archive takes on this processor
-# make bench              times the library against the second implementation and ISA-L; the tables of docs/PERFORMANCE.md
+# make chosen             prints which variant the archive takes on this processor
+# make bench              times the library against the reference implementation and ISA-L; the tables of docs/PERFORMANCE.md
 # make headline           times one great set-up, whole: 11,680 tokens of 512 positions over 4,096 blocks of 4,096 bytes
 # make prove              proves every crate that changed since it was last proved, and runs the programs
 .PHONY: command demo try-command week sheet lib install test compare chosen bench headline prove
@@ -24,7 +24,7 @@ OUT := target/c$(CPU:%=-%)
 HEADERS := $(patsubst include/%,$(LIB)/%,$(wildcard include/*.h include/*/*.h))
 COMPILE = $(CC) -std=c99 -pedantic -Wall -Wextra $(CFLAGS) -I$(LIB)
 LINK = -L$(LIB) -llegbaro
-SHARED := $(wildcard tests/second_*.c) $(addprefix tests/,book.c calls.c files.c buffers.c chance.c groups.c hours.c parities.c)
+SHARED := $(wildcard tests/reference/*.[ch] tests/support/*.[ch])
 
 command: $(OUT)/legbaro
 
@@ -82,12 +82,12 @@ test:
 compare: $(OUT)/tests
 	@$(OUT)/tests
 
-$(OUT)/tests: $(wildcard tests/*.c tests/*.h) $(LIB)/liblegbaro.a $(HEADERS)
+$(OUT)/tests: $(wildcard tests/cases/*.[ch]) $(SHARED) $(LIB)/liblegbaro.a $(HEADERS)
 	@tools/needs cc libcrypto isal
 	@mkdir -p $(OUT)
-	$(COMPILE) -pthread $(filter %.c,$^) -o $@ $(LINK) -lcrypto -lisal
+	$(COMPILE) -Itests -pthread $(filter %.c,$^) -o $@ $(LINK) -lcrypto -lisal
 
-# These two know the codes of the archive by their own names, so they are for the archive that has them all.
+# These two know the variants in the archive by their own names, so they are for the archive that has them all.
 chosen: $(OUT)/chosen
 	@$(OUT)/chosen
 
@@ -102,7 +102,7 @@ bench: $(OUT)/bench
 headline: $(OUT)/bench
 	@$(OUT)/bench --headline
 
-$(OUT)/bench: $(wildcard bench/*.c bench/*.h) $(SHARED) $(wildcard tests/*.h) $(LIB)/liblegbaro.a $(HEADERS)
+$(OUT)/bench: $(wildcard bench/*.c bench/*.h) $(SHARED) $(LIB)/liblegbaro.a $(HEADERS)
 	@tools/needs cc libcrypto isal
 	@mkdir -p $(OUT)
 	$(COMPILE) -Itests -I$(MODULE) $(filter %.c,$^) -o $@ $(LINK) -lcrypto -lisal

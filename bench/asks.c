@@ -1,8 +1,8 @@
 /* See asks.h. */
 #include "asks.h"
 
-#include "files.h"
 #include "pairs.h"
+#include "support/files.h"
 
 #include <stdio.h>
 
@@ -18,9 +18,16 @@ static const struct row {
 
 static struct pair pair_of(const struct row *row)
 {
-    struct pair pair = {.B = row->B, .d = row->d, .r = row->r, .t = row->t, .n = row->d, .goal = row->goal, .others = 1};
+    struct pair pair = {.B = row->B,
+                        .d = row->d,
+                        .r = row->r,
+                        .t = row->t,
+                        .n = row->d,
+                        .goal = row->goal,
+                        .others = 1};
     struct file file = file_set_up(LEGBARO_TWO_STEPS, row->B, row->d, row->r, row->t, row->d);
-    pair.other = row->change == LOAD ? file_load_call(&file, row->r) : file_call(&file, row->change);
+    pair.other =
+        row->change == LOAD ? file_load_call(&file, row->r) : file_call(&file, row->change);
     pair.call = call_asked(&pair.other);
     snprintf(pair.one, sizeof pair.one, "%s", call_name(row->change));
     snprintf(pair.beside, sizeof pair.beside, "%s in one step", call_name(row->change));

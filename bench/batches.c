@@ -1,8 +1,8 @@
 /* See batches.h. */
 #include "batches.h"
 
-#include "files.h"
 #include "pairs.h"
+#include "support/files.h"
 
 #include <stdio.h>
 
@@ -26,11 +26,16 @@ static void make_updates(const struct file *file, struct buffer *items)
 
 static struct pair pair_of(const struct row *row)
 {
-    struct pair pair = {
-        .B = row->B, .d = row->d, .r = row->r, .t = row->t, .n = row->d, .goal = row->goal, .others = (unsigned)row->items};
+    struct pair pair = {.B = row->B,
+                        .d = row->d,
+                        .r = row->r,
+                        .t = row->t,
+                        .n = row->d,
+                        .goal = row->goal,
+                        .others = (unsigned)row->items};
     struct file file = file_set_up(LEGBARO_WITHOUT_MARKS, row->B, row->d, row->r, row->t, row->d);
     pair.call = file_batch_call(&file, row->items);
-    make_updates(&file, &pair.call.lent[ITEMS]);
+    make_updates(&file, &pair.call.args[ITEMS]);
     pair.other = file_call(&file, UPDATE);
     snprintf(pair.one, sizeof pair.one, "%u updates", (unsigned)row->items);
     snprintf(pair.beside, sizeof pair.beside, "%u single updates", (unsigned)row->items);

@@ -1,28 +1,31 @@
 /*
- * Times set-up, proof, update, load and batch by each code of the archive and by the second implementation over libcrypto, and a load, a
- * batch or an ask beside the calls in whose place it stands, and parity beside ISA-L; prints tables that can be pasted into docs/PERFORMANCE.md. What each code
- * writes is compared with the second implementation first. A code that the processor can't run is left out.
+ * Times set-up, proof, update, load and batch by each variant of the archive and by the reference
+ * implementation over libcrypto, and a load, a batch or an ask beside the calls that it replaces,
+ * and parity beside ISA-L; prints tables that can be pasted into docs/PERFORMANCE.md. What each
+ * variant writes is compared with the reference implementation first. A variant that the processor
+ * can't run is left out.
  *
- * libcrypto uses the processor's SHA instructions where it has them; a helper shows what it does without them. In each row all alternate, and
- * the best of each counts.
+ * libcrypto uses the processor's SHA instructions where it has them; a helper shows what it does
+ * without them. In each row all alternate, and the best of each counts.
  *
- *   --beside     the tables of calls beside those in whose place they stand, alone
+ *   --beside     the tables of calls beside those that they replace, alone
  *   --parity     the table of parity alone
- *   --headline   one great set-up in place of the tables, whole: as the archive chooses, by the plain code, and by the second implementation
+ *   --headline   one great set-up instead of the tables, whole: as the archive chooses, by the
+ *                plain one, and by the reference implementation
  */
 #define _XOPEN_SOURCE 700
 #include "asks.h"
 #include "batches.h"
-#include "chance.h"
-#include "codes.h"
-#include "files.h"
-#include "groups.h"
 #include "helper.h"
 #include "loads.h"
 #include "parity.h"
 #include "proofs.h"
-#include "second.h"
-#include "times.h"
+#include "reference/reference.h"
+#include "support/chance.h"
+#include "support/expect.h"
+#include "support/files.h"
+#include "timing.h"
+#include "variants.h"
 
 #include <openssl/crypto.h>
 #include <stdio.h>
@@ -32,7 +35,8 @@ enum { SEED = 20261115 };
 
 /* ---- What is timed ---- */
 
-/* t tokens for a set-up or a change; n blocks for a proof, n new blocks for a load, and n items for a batch. */
+/* t tokens for a set-up or a change; n blocks for a proof, n new blocks for a load, and n items for
+ * a batch. */
 struct measure {
     const char *title; /* begins a table */
     enum kind kind;
@@ -42,7 +46,11 @@ struct measure {
 enum { T_SET_UP = 4, T_UPDATE = 64, T_LOAD = 4, T_BATCH = 8 };
 
 /* Set-up and proof at one size. */
-#define BOTH(title, version, B, d, r) {title, SET_UP, version, B, d, r, T_SET_UP, d}, {NULL, PROVE, version, B, d, r, 1, d}
+/* clang-format off */
+#define BOTH(title, version, B, d, r)                                                              \
+    {title, SET_UP, version, B, d, r, T_SET_UP, d},                                                \
+    {NULL, PROVE, version, B, d, r, 1, d}
+/* clang-format on */
 
 static const struct measure measures[] = {
     BOTH("Set-up and proof", 1, 64, 4096, 64),
@@ -103,8 +111,8 @@ static struct call change_call(const struct measure *m)
     return change;
 }
 
-/* The call that is timed. It is accepted again and again on its own buffers, by any way: an update or a batch takes the bytes handed over,
- * and a load adds its blocks once more. */
+/* The call that is timed. It is accepted again and again on its own buffers, by any way: an update
+ * or a batch takes the bytes handed over, and a load adds its blocks once more. */
 static struct call measured_call(const struct measure *m)
 {
     if (m->kind == SET_UP)
@@ -124,21 +132,22 @@ static double helped(int row, unsigned calls)
         last = row;
         call = measured_call(&measures[row]);
     }
-    return timed(call_second, &call, measures[row].n, calls);
+    return timed(call_reference, &call, measures[row].n, calls);
 }
 
 static double timed_by(int way, struct call *call, int row, unsigned calls)
 {
-    return way == WITHOUT_SHA ? helper_timed(row, calls) : timed(runs[way], call, measures[row].n, calls);
+    return way == WITHOUT_SHA ? helper_timed(row, calls)
+                              : timed(runs[way], call, measures[row].n, calls);
 }
 
-/* Nanoseconds for one call by each way, and 0 for a code that the processor can't run. */
+/* Nanoseconds for one call by each way, and 0 for a variant that the processor can't run. */
 struct times {
     double best[WAYS];
 };
 
-/* A call alone tells how many are timed together. What an update takes hangs on how many tokens draw its block, so all ways go through blocks of the
- * same numbers. */
+/* A call alone tells how many are timed together. What an update takes hangs on how many tokens
+ * draw its block, so all ways go through blocks of the same numbers. */
 static struct times measure(int row)
 {
     struct call call = measured_call(&measures[row]);
@@ -146,18 +155,20 @@ static struct times measure(int row)
     unsigned calls[WAYS] = {0}, most = 0;
     call.m = 1;
     for (int way = 0; way < WAYS; way++) {
-        int code = way >= PLAIN && way <= CHOSEN;
-        if (code && !code_runs(runs[way], &call))
+        int ours = way >= PLAIN && way <= CHOSEN;
+        if (ours && !variant_runs(runs[way], &call))
             continue;
-        if (code)
+        if (ours)
             compare(runs[way], &call);
         calls[way] = calls_for(timed_by(way, &call, row, 1));
         most = calls[way] > most ? calls[way] : most;
     }
-    for (int turn = 0; turn < TURNS; turn++)
+    for (int i = 0; i < REPEATS; i++)
         for (int way = 0; way < WAYS; way++)
             if (calls[way])
-                t.best[way] = lesser(t.best[way], timed_by(way, &call, row, measures[row].kind == UPDATE ? most : calls[way]));
+                t.best[way] =
+                    lesser(t.best[way], timed_by(way, &call, row,
+                                                 measures[row].kind == UPDATE ? most : calls[way]));
     call_free(&call);
     return t;
 }
@@ -183,16 +194,18 @@ static void print_heading(const struct measure *m)
     if (!m->title)
         return;
     printf("\n%s\n\n", m->title);
-    puts("| Call | B | d | r | t | n | libcrypto, µs | chosen, µs | plain | AVX2 | AVX-512 | chosen | libcrypto without SHA instructions |");
+    puts("| Call | B | d | r | t | n | libcrypto, µs | chosen, µs | plain | AVX2 | AVX-512 | "
+         "chosen | libcrypto without SHA instructions |");
     puts("|---|---|---|---|---|---|---|---|---|---|---|---|---|");
 }
 
 static void print_row(const struct measure *m, struct times t)
 {
     print_heading(m);
-    printf("| %s | %llu | %llu | %llu | %llu | %llu | %.1f | %.1f |", call_name(m->kind), (unsigned long long)m->B,
-           (unsigned long long)m->d, (unsigned long long)m->r, (unsigned long long)m->t, (unsigned long long)m->n,
-           t.best[LIBCRYPTO] / 1e3, t.best[CHOSEN] / 1e3);
+    printf("| %s | %llu | %llu | %llu | %llu | %llu | %.1f | %.1f |", call_name(m->kind),
+           (unsigned long long)m->B, (unsigned long long)m->d, (unsigned long long)m->r,
+           (unsigned long long)m->t, (unsigned long long)m->n, t.best[LIBCRYPTO] / 1e3,
+           t.best[CHOSEN] / 1e3);
     for (int way = PLAIN; way < WAYS; way++)
         if (t.best[way] > 0)
             printf(" %.2f |", t.best[way] / t.best[LIBCRYPTO]);
@@ -213,7 +226,7 @@ static void print_measures(const char *program)
 /* All tables, or only those of calls beside others. */
 static void print_tables(const char *program, int only_beside)
 {
-    group_begin("the library and the second implementation write the same");
+    test_begin("the library and the reference implementation write the same");
     print_processor();
     puts(OpenSSL_version(OPENSSL_VERSION));
     if (!only_beside)
@@ -224,42 +237,46 @@ static void print_tables(const char *program, int only_beside)
     print_proofs();
     print_parity();
     putchar('\n');
-    group_end();
+    test_end();
 }
 
 /* Times the great set-up by one way, and expects card, table and totals of the way before. */
-static void print_whole(const char *way, uint64_t (*run)(struct call *), const struct call *call, struct call *before)
+static void print_whole(const char *way, uint64_t (*run)(struct call *), const struct call *call,
+                        struct call *before)
 {
     struct call own = call_copy(call);
     printf("%s: %.1f s\n", way, timed(run, &own, 1, 1) / 1e9);
     fflush(stdout);
-    for (int argument = 0; before->lent[CARD].bytes && argument < ARGUMENTS; argument++)
-        expect(!call_takes(SET_UP, argument) || buffer_same(&own.lent[argument], &before->lent[argument]), "%s: the same bytes", way);
+    for (int argument = 0; before->args[CARD].bytes && argument < ARGUMENTS; argument++)
+        expect(!call_takes(SET_UP, argument) ||
+                   buffer_same(&own.args[argument], &before->args[argument]),
+               "%s: the same bytes", way);
     call_free(before);
     *before = own;
 }
 
 static void print_headline(void)
 {
-    struct call call = file_set_up_call(LEGBARO_WITHOUT_MARKS, 4096, 4096, 512, 11680, 4096), before = {.kind = SET_UP};
-    group_begin("the great set-up writes the same each way");
+    struct call call = file_set_up_call(LEGBARO_WITHOUT_MARKS, 4096, 4096, 512, 11680, 4096),
+                before = {.kind = SET_UP};
+    test_begin("the great set-up writes the same each way");
     print_processor();
     puts("set-up of 11680 tokens, r = 512, B = 4096, d = 4096");
     print_whole("as chosen", call_library, &call, &before);
     print_whole("plain x86-64, no AVX", call_plain, &call, &before);
-    print_whole("libcrypto", call_second, &call, &before);
+    print_whole("libcrypto", call_reference, &call, &before);
     call_free(&before);
     call_free(&call);
-    group_end();
+    test_end();
 }
 
 static void print_parity_alone(void)
 {
-    group_begin("the library, the second implementation and ISA-L write the same");
+    test_begin("the library, the reference implementation and ISA-L write the same");
     print_processor();
     print_parity();
     putchar('\n');
-    group_end();
+    test_end();
 }
 
 int main(int count, char **words)
@@ -267,7 +284,7 @@ int main(int count, char **words)
     const char *word = count == 2 ? words[1] : "";
     int helper = !strcmp(word, HELPER);
     chance_start(SEED);
-    second_start();
+    reference_start();
     if (helper)
         help(helped);
     else if (!strcmp(word, "--headline"))
@@ -276,6 +293,6 @@ int main(int count, char **words)
         print_parity_alone();
     else
         print_tables(words[0], !strcmp(word, "--beside"));
-    second_end();
-    return helper || groups_passed() ? 0 : 1;
+    reference_end();
+    return helper || tests_passed() ? 0 : 1;
 }

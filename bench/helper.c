@@ -7,7 +7,8 @@
 #include <sys/wait.h>
 #include <unistd.h>
 
-/* OpenSSL's switch for what it takes the processor to have, and its value without the SHA instructions. */
+/* OpenSSL's switch for what it takes the processor to have, and its value without the SHA
+ * instructions. */
 #define SWITCH "OPENSSL_ia32cap"
 #define WITHOUT_SHA ":~0x20000000"
 

@@ -1,4 +1,5 @@
-/* This program once more, as a helper whose libcrypto uses no SHA instructions: it answers how long the second implementation takes. */
+/* This program once more, as a helper whose libcrypto uses no SHA instructions: it answers how long
+ * the reference implementation takes. */
 #ifndef HELPER_H
 #define HELPER_H
 
@@ -9,10 +10,11 @@ void helper_end(void);
 /* The helper's nanoseconds for one of so many calls of a row. */
 double helper_timed(int row, unsigned calls);
 
-/* What the helper itself does: it answers every question, a row and how many calls, by what it is given. */
+/* What the helper itself does: it answers every question, a row and how many calls, by what it is
+ * given. */
 void help(double (*timed)(int row, unsigned calls));
 
-/* The word by which the program is told that it is the helper. */
+/* The word that makes the program the helper. */
 #define HELPER "--helper"
 
 #endif

@@ -1,4 +1,5 @@
-/* A load beside the calls in whose place it stands, in one run: a set-up of as many blocks, or an append for each block. */
+/* A load beside the calls that it replaces, in one run: a set-up of as many blocks, or an append
+ * for each block. */
 #ifndef LOADS_H
 #define LOADS_H
 

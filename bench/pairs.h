@@ -1,10 +1,11 @@
-/* A call beside the calls in whose place it stands, timed in one run by each code. */
+/* A call beside the calls that it replaces, timed in one run by each variant. */
 #ifndef PAIRS_H
 #define PAIRS_H
 
-#include "calls.h"
+#include "support/calls.h"
 
-/* The calls are accepted again and again on their own buffers. An update goes through the first n blocks. */
+/* The calls are accepted again and again on their own buffers. An update goes through the first n
+ * blocks. */
 struct pair {
     char one[32], beside[32]; /* what both are called in the table */
     struct call call, other;

@@ -1,22 +1,28 @@
-/* See parity.h. ISA-L's Cauchy matrix has the weights of the parity calls, so that both write the same. */
+/* See parity.h. ISA-L's Cauchy matrix has the weights of the parity calls, so that both write the
+ * same. */
 #include "parity.h"
 
-#include "codes.h"
-#include "groups.h"
-#include "parities.h"
-#include "times.h"
+#include "support/expect.h"
+#include "support/parity_calls.h"
+#include "timing.h"
+#include "variants.h"
 
 #include <isa-l.h>
 #include <stdio.h>
 #include <string.h>
 
-enum { K = LEGBARO_MOST_DATA_BLOCKS, P = LEGBARO_MOST_PARITY_BLOCKS, B_MOST = LEGBARO_MOST_BLOCK_BYTES };
+enum {
+    K = LEGBARO_MOST_DATA_BLOCKS,
+    P = LEGBARO_MOST_PARITY_BLOCKS,
+    B_MOST = LEGBARO_MOST_BLOCK_BYTES
+};
 
 static const struct row {
     uint64_t B, k, p;
 } rows[] = {{4096, 10, 4}, {4096, 48, 16}, {64, 10, 4}, {64, 48, 16}};
 
-/* What the time of the code chosen, divided by ISA-L's, is to be at most for an encoding of blocks of 4,096 bytes. */
+/* What the time of the chosen variant, divided by ISA-L's, is to be at most for an encoding of
+ * blocks of 4,096 bytes. */
 static const double vector_goal = 4, portable_goal = 0.15;
 
 /* ---- ISA-L, on the same blocks ---- */
@@ -30,7 +36,7 @@ static void prepare_encode(const struct call *call)
     gf_gen_cauchy1_matrix(matrix, (int)(call->n + call->r), (int)call->n);
     ec_init_tables((int)call->n, (int)call->r, matrix + call->n * call->n, tables);
     for (uint64_t q = 0; q < call->n; q++)
-        from[q] = call->lent[BLOCKS].bytes + q * call->B;
+        from[q] = call->args[BLOCKS].bytes + q * call->B;
     for (uint64_t x = 0; x < call->r; x++)
         to[x] = written + x * call->B;
 }
@@ -47,8 +53,9 @@ static uint64_t encode_portable(struct call *call)
     return LEGBARO_OK;
 }
 
-/* Rebuilding of the first data blocks, as many as there are parity blocks: the matrix of the blocks left is inverted, its tables made, and
- * the blocks multiplied, as a caller must for each set of losses. */
+/* Rebuilding of the first data blocks, as many as there are parity blocks: the matrix of the blocks
+ * left is inverted, its tables made, and the blocks multiplied, as a caller must for each set of
+ * losses. */
 static int prepare_rebuild(const struct call *call)
 {
     static uint8_t left[K * K], inverted[K * K];
@@ -56,7 +63,7 @@ static int prepare_rebuild(const struct call *call)
     for (int i = 0; i < k; i++) {
         int source = p + i;
         memcpy(left + i * k, matrix + source * k, (size_t)k);
-        from[i] = call->lent[BLOCKS].bytes + (size_t)source * call->B;
+        from[i] = call->args[BLOCKS].bytes + (size_t)source * call->B;
     }
     int singular = gf_invert_matrix(left, inverted, k);
     ec_init_tables(k, p, inverted, tables);
@@ -77,21 +84,22 @@ static uint64_t rebuild_portable(struct call *call)
 
 enum { VECTOR, PORTABLE, OURS, ALL = OURS + CHOSEN - PLAIN + 1 };
 
-/* The best of many times by each way, all alternating; 0 for a code that the processor can't run. ISA-L's vector code leaves the upper
- * halves of registers in use, which slows down plain code behind it; a call of the library clears them. */
+/* The best of many times by each way, all alternating; 0 for a variant that the processor can't
+ * run. ISA-L's vector code leaves the upper halves of registers in use, which slows down plain code
+ * after it; a call of the library clears them. */
 static void measure(struct call *call, uint64_t (*const ways[ALL])(struct call *), double best[ALL])
 {
     unsigned calls[ALL];
     for (int way = 0; way < ALL; way++) {
         best[way] = 0;
-        if (way >= OURS && !code_runs(ways[way], call))
+        if (way >= OURS && !variant_runs(ways[way], call))
             continue;
         if (way >= OURS)
             compare(ways[way], call);
         best[way] = timed(ways[way], call, 1, 1);
         calls[way] = calls_for(best[way]);
     }
-    for (int turn = 0; turn < TURNS; turn++)
+    for (int i = 0; i < REPEATS; i++)
         for (int way = 0; way < ALL; way++)
             if (best[way] > 0) {
                 call_library(call);
@@ -111,8 +119,9 @@ static void print_ratios(const double best[ALL], int beside)
 static void print_row(const struct row *row, struct call *call, const double best[ALL])
 {
     int goal = call->kind == PARITY_ENCODE && row->B == B_MOST;
-    printf("| %s | %u | %u | %u | %.1f | %.1f | %.1f |", call_name(call->kind), (unsigned)row->B, (unsigned)row->k, (unsigned)row->p,
-           best[VECTOR] / 1e3, best[PORTABLE] / 1e3, best[ALL - 1] / 1e3);
+    printf("| %s | %u | %u | %u | %.1f | %.1f | %.1f |", call_name(call->kind), (unsigned)row->B,
+           (unsigned)row->k, (unsigned)row->p, best[VECTOR] / 1e3, best[PORTABLE] / 1e3,
+           best[ALL - 1] / 1e3);
     print_ratios(best, VECTOR);
     if (goal)
         printf(" %.2f |", vector_goal);
@@ -139,12 +148,14 @@ static void measure_row(const struct row *row)
     rebuilding = parity_rebuilding(&encoding, lost, row->p);
     prepare_encode(&encoding);
     measure(&encoding, ways, best);
-    expect(!memcmp(written, encoding.lent[OUT].bytes, row->p * row->B), "the parity that ISA-L writes");
+    expect(!memcmp(written, encoding.args[OUT].bytes, row->p * row->B),
+           "the parity that ISA-L writes");
     print_row(row, &encoding, best);
     ways[VECTOR] = rebuild_vector;
     ways[PORTABLE] = rebuild_portable;
     measure(&rebuilding, ways, best);
-    expect(!memcmp(written, rebuilding.lent[OUT].bytes, row->p * row->B), "the data that ISA-L rebuilds");
+    expect(!memcmp(written, rebuilding.args[OUT].bytes, row->p * row->B),
+           "the data that ISA-L rebuilds");
     print_row(row, &rebuilding, best);
     call_free(&encoding);
     call_free(&rebuilding);
@@ -153,7 +164,8 @@ static void measure_row(const struct row *row)
 void print_parity(void)
 {
     puts("\nParity beside ISA-L\n");
-    puts("| Call | B | k | p | ISA-L, µs | ISA-L's portable code, µs | chosen, µs | plain | AVX2 | AVX-512 | chosen | goal | chosen, beside "
+    puts("| Call | B | k | p | ISA-L, µs | ISA-L's portable code, µs | chosen, µs | plain | AVX2 | "
+         "AVX-512 | chosen | goal | chosen, beside "
          "portable | goal |");
     puts("|---|---|---|---|---|---|---|---|---|---|---|---|---|---|");
     for (size_t i = 0; i < sizeof rows / sizeof *rows; i++)

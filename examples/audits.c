@@ -15,9 +15,12 @@ static struct bytes host_marks(void)
 
 uint64_t host_proves(void)
 {
-    struct bytes message = read_file("host/message"), blocks = read_file("host/blocks"), table = read_file("host/table");
-    struct bytes marks = host_marks(), reply = room(LEGBARO_REPLY_BYTES), totals = room(LEGBARO_TOTALS_BYTES);
-    uint64_t result = legbaro_prove(LENT(message), LENT(blocks), LENT(marks), LENT(table), LENT(reply), LENT(totals));
+    struct bytes message = read_file("host/message"), blocks = read_file("host/blocks"),
+                 table = read_file("host/table");
+    struct bytes marks = host_marks(), reply = room(LEGBARO_REPLY_BYTES),
+                 totals = room(LEGBARO_TOTALS_BYTES);
+    uint64_t result = legbaro_prove(LENT(message), LENT(blocks), LENT(marks), LENT(table),
+                                    LENT(reply), LENT(totals));
     write_file("host/reply", LENT(reply));
     write_file("host/totals", LENT(totals));
     free(message.at);
@@ -33,10 +36,11 @@ uint64_t host_proves(void)
 
 uint64_t owner_draws(uint64_t role, const struct moment *now)
 {
-    struct bytes master = read_file("owner/master"), card = read_file("owner/card"), plan = read_file("owner/plan");
+    struct bytes master = read_file("owner/master"), card = read_file("owner/card"),
+                 plan = read_file("owner/plan");
     struct bytes message = room(LEGBARO_MESSAGE_BYTES);
-    uint64_t result =
-        legbaro_draw(role, LENT(master), LENT(card), LENT(message), LENT(plan), now->year, now->month, now->day, now->minute);
+    uint64_t result = legbaro_draw(role, LENT(master), LENT(card), LENT(message), LENT(plan),
+                                   now->year, now->month, now->day, now->minute);
     if (result == LEGBARO_OK) {
         store_card(card);
         write_file("host/message", LENT(message));
@@ -58,7 +62,8 @@ uint64_t owner_waits(const struct moment *now)
 
 uint64_t owner_asks_cause(uint64_t role)
 {
-    struct bytes master = read_file("owner/master"), card = read_file("owner/card"), reply = read_file("host/reply");
+    struct bytes master = read_file("owner/master"), card = read_file("owner/card"),
+                 reply = read_file("host/reply");
     uint64_t result = legbaro_cause(role, LENT(master), LENT(card), LENT(reply));
     free(master.at);
     free(card.at);
@@ -68,7 +73,8 @@ uint64_t owner_asks_cause(uint64_t role)
 
 uint64_t owner_judges(uint64_t role)
 {
-    struct bytes master = read_file("owner/master"), card = read_file("owner/card"), reply = read_file("host/reply");
+    struct bytes master = read_file("owner/master"), card = read_file("owner/card"),
+                 reply = read_file("host/reply");
     uint64_t result = legbaro_judge(role, LENT(master), LENT(card), LENT(reply));
     store_card(card);
     free(master.at);
@@ -98,7 +104,8 @@ static struct bytes gathered(const char *const *folders, size_t count, const cha
 
 uint64_t host_pools(const char *const *folders, size_t count)
 {
-    struct bytes replies = gathered(folders, count, "host/reply"), pooled = room(LEGBARO_POOLED_BYTES(count));
+    struct bytes replies = gathered(folders, count, "host/reply"),
+                 pooled = room(LEGBARO_POOLED_BYTES(count));
     uint64_t result = legbaro_pool(LENT(replies), LENT(pooled));
     write_file("pooled", LENT(pooled));
     free(replies.at);
@@ -121,7 +128,8 @@ static void store_cards(const char *const *folders, size_t count, const uint8_t 
 
 uint64_t owner_judges_pool(uint64_t role, const char *const *folders, size_t count)
 {
-    struct bytes master = gathered(folders, 1, "owner/master"), cards = gathered(folders, count, "owner/card");
+    struct bytes master = gathered(folders, 1, "owner/master"),
+                 cards = gathered(folders, count, "owner/card");
     struct bytes reply = read_file("pooled");
     uint64_t result = legbaro_judge_pool(role, LENT(master), LENT(cards), LENT(reply));
     store_cards(folders, count, cards.at);

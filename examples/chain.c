@@ -1,4 +1,5 @@
-/* One reply for a chain: three car parks of one owner at one host, audited together, and singly where the host has lost a block. */
+/* One reply for a chain: three car parks of one owner at one host, audited together, and singly
+ * where the host has lost a block. */
 #include "scenes.h"
 
 #include <stdio.h>
@@ -43,7 +44,8 @@ static void audit_together(uint64_t verdict)
         leave_folders();
     }
     tell("the host makes one reply of the three:", host_pools(folders, CENTRES), LEGBARO_OK);
-    tell("the manager judges it, lent all three cards:", owner_judges_pool(LEGBARO_MANAGER, folders, CENTRES), verdict);
+    tell("the manager judges it, lent all three cards:",
+         owner_judges_pool(LEGBARO_MANAGER, folders, CENTRES), verdict);
 }
 
 /* The host puts zero bytes where the block was. */
@@ -74,16 +76,21 @@ static void audit_singly(void)
 void chain(void)
 {
     puts("\nONE REPLY FOR A CHAIN");
-    puts("  An owner has three more car parks at one host, in files of versions 1, 2 and 3 under one key.");
+    puts("  An owner has three more car parks at one host, in files of versions 1, 2 and 3 under "
+         "one key.");
     for (int centre = 0; centre < CENTRES; centre++)
         set_up(centre);
     audit_together(LEGBARO_OK);
-    printf("  One reply of %lu bytes, and one verdict, which closes all three draws.\n", (unsigned long)size_of("pooled"));
+    printf("  One reply of %lu bytes, and one verdict, which closes all three draws.\n",
+           (unsigned long)size_of("pooled"));
     puts("\nA CHAIN WHOSE HOST LOST A BLOCK");
-    printf("  The host loses block %d of one file, says nothing and puts zero bytes where the block was.\n", LOST);
+    printf("  The host loses block %d of one file, says nothing and puts zero bytes where the "
+           "block was.\n",
+           LOST);
     lose_block();
     audit_together(LEGBARO_REJECTED);
-    puts("  The verdict does not tell which file it was, and no draw is open to ask the cause. Each file is drawn again, and judged singly.");
+    puts("  The verdict does not tell which file it was, and no draw is open to ask the cause. "
+         "Each file is drawn again, and judged singly.");
     audit_singly();
     for (int centre = 0; centre < CENTRES; centre++) {
         enter_folders(folders[centre]);

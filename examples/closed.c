@@ -1,4 +1,5 @@
-/* A closed day is not a deleted block: the same file in version 1 and in version 2, and a host that drops what it takes for deleted. */
+/* A closed day is not a deleted block: the same file in version 1 and in version 2, and a host that
+ * drops what it takes for deleted. */
 #include "scenes.h"
 
 #include <stdio.h>
@@ -10,18 +11,25 @@ enum { BAYS = 40, TOKENS = 2, CLOSED = 6 * TICKS_A_DAY, EXPIRED = 5 };
 
 static void set_up(uint64_t version)
 {
-    struct plan plan = {version == LEGBARO_WITH_MARKS ? "carpark4" : "carpark3", version, BAYS, A_WEEK, A_WEEK, TOKENS};
+    struct plan plan = {version == LEGBARO_WITH_MARKS ? "carpark4" : "carpark3",
+                        version,
+                        BAYS,
+                        A_WEEK,
+                        A_WEEK,
+                        TOKENS};
     struct bytes week = samples(BAYS, 0, A_WEEK);
     memset(week.at + (size_t)CLOSED * BAYS, 0, (size_t)TICKS_A_DAY * BAYS);
     owner_begins(week);
     free(week.at);
     tell("the owner sets up with a week's blocks:", owner_sets_up(&plan), LEGBARO_OK);
     wipe("owner/blocks");
-    tell("deletion of a block that may no longer be kept:", owner_deletes(LEGBARO_PLANNER, EXPIRED), LEGBARO_OK);
+    tell("deletion of a block that may no longer be kept:", owner_deletes(LEGBARO_PLANNER, EXPIRED),
+         LEGBARO_OK);
     tell_files("host");
 }
 
-/* The host loses the closed day's blocks, and answers as if they were deleted ones: zero bytes, with that mark where there are marks. */
+/* The host loses the closed day's blocks, and answers as if they were deleted ones: zero bytes,
+ * with that mark where there are marks. */
 static void drop_closed_day(uint64_t version)
 {
     struct bytes zeros = room((size_t)TICKS_A_DAY * BAYS), marks = room(TICKS_A_DAY);
@@ -52,7 +60,8 @@ static void closed_day(uint64_t version)
 void closed_days(void)
 {
     puts("\nA CLOSED DAY, IN A FILE OF VERSION 1");
-    puts("  A third car park is closed on Sunday: its samples are blocks of zeros, and belong to the file.");
+    puts("  A third car park is closed on Sunday: its samples are blocks of zeros, and belong to "
+         "the file.");
     closed_day(LEGBARO_WITHOUT_MARKS);
     puts("  Blocks of zeros hash like deleted ones, and the owner can't see that the day is gone.");
     puts("\nTHE SAME IN A FILE OF VERSION 2");

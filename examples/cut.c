@@ -1,4 +1,5 @@
-/* A reply that is cut on the way: its cause is asked for before it is judged, and the token is not lost. */
+/* A reply that is cut on the way: its cause is asked for before it is judged, and the token is not
+ * lost. */
 #include "scenes.h"
 
 #include <stdio.h>
@@ -8,7 +9,8 @@ void cut_reply(void)
     puts("\nA REPLY CUT ON THE WAY");
     draw();
     prove();
-    puts("  The line drops, and half of the reply arrives. The owner asks why it would be rejected.");
+    puts("  The line drops, and half of the reply arrives. The owner asks why it would be "
+         "rejected.");
     copy_file("host/reply", "host/reply-whole");
     resize_file("host/reply", LEGBARO_REPLY_BYTES / 2);
     tell_cause(LEGBARO_CAUSE_SIZE);

@@ -91,7 +91,8 @@ static void flush(const char *name)
         stop("store", name);
 }
 
-/* The bytes are on the disk before the file takes the other's name, and the name is before anything else is done. */
+/* The bytes are on the disk before the file takes the other's name, and the name is before anything
+ * else is done. */
 void store_file(const char *folder, const char *name, const void *bytes, size_t length)
 {
     char path[64], beside[64];
@@ -128,7 +129,8 @@ void wipe(const char *name)
 
 void make_folders(const char *name)
 {
-    if (mkdir(name, 0700) != 0 || chdir(name) != 0 || mkdir("owner", 0700) != 0 || mkdir("host", 0700) != 0)
+    if (mkdir(name, 0700) != 0 || chdir(name) != 0 || mkdir("owner", 0700) != 0 ||
+        mkdir("host", 0700) != 0)
         stop("make", name);
 }
 
@@ -146,10 +148,11 @@ void enter_folders(const char *name)
 
 void remove_folders(const char *name)
 {
-    static const char *const names[] = {"owner/master", "owner/card",         "owner/table",  "owner/plan",        "owner/totals",
-                                        "owner",        "host/blocks",        "host/table",   "host/table-before", "host/message",
-                                        "host/reply",   "host/reply-whole",   "host/marks",   "host/totals",       "host/blocks-before",
-                                        "host"};
+    static const char *const names[] = {
+        "owner/master",      "owner/card",   "owner/table",        "owner/plan",
+        "owner/totals",      "owner",        "host/blocks",        "host/table",
+        "host/table-before", "host/message", "host/reply",         "host/reply-whole",
+        "host/marks",        "host/totals",  "host/blocks-before", "host"};
     for (size_t i = 0; i < sizeof names / sizeof *names; i++)
         remove(names[i]);
     leave_folders();

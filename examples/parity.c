@@ -1,5 +1,6 @@
-/* Parity beside a file: a day's samples and their parity blocks are two files at two hosts. Blocks are lost, found out by audits, and
- * rebuilt; after a correction the group is encoded again and the file of parity follows. */
+/* Parity beside a file: a day's samples and their parity blocks are two files at two hosts. Blocks
+ * are lost, found out by audits, and rebuilt; after a correction the group is encoded again and the
+ * file of parity follows. */
 #include "scenes.h"
 
 #include <stdio.h>
@@ -9,7 +10,8 @@
 /* One group: a day's samples, and four parity blocks. */
 enum { BAYS = 40, DATA = TICKS_A_DAY, PARITY = 4, TOKENS = 4, STUCK = 12 };
 
-/* The folders of the file of parity stand inside those of the data, so that each is one step from the other. */
+/* The folders of the file of parity stand inside those of the data, so that each is one step from
+ * the other. */
 #define DATA_FOLDER "group"
 #define PARITY_FOLDER "parity"
 
@@ -26,7 +28,8 @@ static void set_up(const char *id, uint64_t blocks_count, struct bytes blocks, c
 static struct bytes encoded(struct bytes data)
 {
     struct bytes parity = room((size_t)PARITY * BAYS);
-    tell("the owner encodes the day's 24 blocks into 4:", legbaro_parity_encode(BAYS, DATA, PARITY, LENT(data), LENT(parity)), LEGBARO_OK);
+    tell("the owner encodes the day's 24 blocks into 4:",
+         legbaro_parity_encode(BAYS, DATA, PARITY, LENT(data), LENT(parity)), LEGBARO_OK);
     return parity;
 }
 
@@ -69,7 +72,8 @@ static void lose(const uint8_t *lost, size_t count)
     free(zeros.at);
 }
 
-/* Fetches what both hosts have and rebuilds the data. Lost data blocks go back to their host, and the parity of all to the other. */
+/* Fetches what both hosts have and rebuilds the data. Lost data blocks go back to their host, and
+ * the parity of all to the other. */
 static void rebuild(const uint8_t *lost, size_t count)
 {
     struct bytes data = read_file("host/blocks"), parity = read_file(PARITY_FOLDER "/host/blocks");
@@ -78,9 +82,11 @@ static void rebuild(const uint8_t *lost, size_t count)
     memcpy(blocks.at + data.length, parity.at, parity.length);
     free(parity.at);
     tell("the owner rebuilds, one lost block more is named:",
-         legbaro_parity_rebuild(BAYS, DATA, PARITY, LENT(blocks), lost, count + 1, LENT(data)), LEGBARO_TOO_MANY_LOST);
+         legbaro_parity_rebuild(BAYS, DATA, PARITY, LENT(blocks), lost, count + 1, LENT(data)),
+         LEGBARO_TOO_MANY_LOST);
     tell("the owner rebuilds, the lost blocks are named:",
-         legbaro_parity_rebuild(BAYS, DATA, PARITY, LENT(blocks), lost, count, LENT(data)), LEGBARO_OK);
+         legbaro_parity_rebuild(BAYS, DATA, PARITY, LENT(blocks), lost, count, LENT(data)),
+         LEGBARO_OK);
     parity = encoded(data);
     write_file("host/blocks", LENT(data));
     write_file(PARITY_FOLDER "/host/blocks", LENT(parity));
@@ -94,12 +100,14 @@ static void blocks_are_lost(void)
     /* Three data blocks and the first of the parity blocks, and one that is not lost. */
     static const uint8_t lost[] = {8, 14, 19, DATA, 20};
     puts("\nBLOCKS ARE LOST, AND COME BACK");
-    puts("  One host loses blocks 9, 15 and 20, the other its block 1. Both say nothing and put zero bytes there.");
+    puts("  One host loses blocks 9, 15 and 20, the other its block 1. Both say nothing and put "
+         "zero bytes there.");
     lose(lost, PARITY);
     audit_both(LEGBARO_REJECTED);
     puts("  Now they look, and tell which blocks are gone. The owner fetches the others.");
     rebuild(lost, PARITY);
-    puts("  What was rebuilt goes back to the hosts. Cards and tables stand as they are: these are the blocks that they cover.");
+    puts("  What was rebuilt goes back to the hosts. Cards and tables stand as they are: these are "
+         "the blocks that they cover.");
     audit_both(LEGBARO_OK);
 }
 
@@ -110,7 +118,8 @@ static void update_parity(struct bytes parity)
     for (unsigned x = 0; x < PARITY; x++)
         corrections[x] = (struct correction){x + 1, {parity.at + x * BAYS, BAYS}};
     go_to(PARITY_FOLDER);
-    tell("the planner updates the parity, 4 blocks in one batch:", owner_corrects(LEGBARO_PLANNER, corrections, PARITY), LEGBARO_OK);
+    tell("the planner updates the parity, 4 blocks in one batch:",
+         owner_corrects(LEGBARO_PLANNER, corrections, PARITY), LEGBARO_OK);
     tell_card();
     go_to("..");
 }
@@ -119,8 +128,10 @@ static void data_change(void)
 {
     struct bytes corrected = samples(BAYS, 2 * STUCK, 1);
     puts("\nA SAMPLE IS CORRECTED, AND ITS PARITY FOLLOWS");
-    printf("  A detector was stuck: block %d is wrong. No call changes the parity by itself.\n", STUCK);
-    tell("the planner updates the block:", owner_updates(LEGBARO_PLANNER, STUCK, corrected), LEGBARO_OK);
+    printf("  A detector was stuck: block %d is wrong. No call changes the parity by itself.\n",
+           STUCK);
+    tell("the planner updates the block:", owner_updates(LEGBARO_PLANNER, STUCK, corrected),
+         LEGBARO_OK);
     struct bytes data = read_file("host/blocks"), parity = encoded(data);
     update_parity(parity);
     audit_both(LEGBARO_OK);
@@ -132,7 +143,8 @@ static void data_change(void)
 void parity_beside(void)
 {
     puts("\nPARITY BESIDE THE FILE");
-    puts("  A sixth car park keeps a day's 24 samples at one host, and 4 parity blocks, a file of their own, at another.");
+    puts("  A sixth car park keeps a day's 24 samples at one host, and 4 parity blocks, a file of "
+         "their own, at another.");
     puts("  Of these 28 blocks any 24 are enough.");
     begin();
     blocks_are_lost();

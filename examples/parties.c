@@ -7,7 +7,8 @@
 /* A window of a weekly plan: the minutes of the day at which it opens and shuts, 2 bytes each. */
 #define WINDOW(start, end) (start) / 256, (start) % 256, (end) / 256, (end) % 256
 
-/* An example key, for this program only. A real one is random, secret, and set up once for each file id. */
+/* An example key, for this program only. A real one is random, secret, and set up once for each
+ * file id. */
 static const char example_master[] = "Example key: for this demo only!";
 
 /* A big-endian number in a file. */
@@ -69,8 +70,9 @@ void store_card(struct bytes card)
 
 /* Draws are allowed from 21:00 to 6:00 in the morning, and on Sundays from 8:00 to 22:00. */
 static const uint8_t closing_hours[LEGBARO_PLAN_BYTES] = {
-    WINDOW(21 * 60, 6 * 60), WINDOW(21 * 60, 6 * 60), WINDOW(21 * 60, 6 * 60), WINDOW(21 * 60, 6 * 60),
-    WINDOW(21 * 60, 6 * 60), WINDOW(21 * 60, 6 * 60), WINDOW(8 * 60, 22 * 60),
+    WINDOW(21 * 60, 6 * 60), WINDOW(21 * 60, 6 * 60), WINDOW(21 * 60, 6 * 60),
+    WINDOW(21 * 60, 6 * 60), WINDOW(21 * 60, 6 * 60), WINDOW(21 * 60, 6 * 60),
+    WINDOW(8 * 60, 22 * 60),
 };
 
 void owner_begins(struct bytes blocks)
@@ -83,12 +85,15 @@ void owner_begins(struct bytes blocks)
 uint64_t owner_sets_up(const struct plan *plan)
 {
     struct bytes master = read_file("owner/master"), blocks = read_file("owner/blocks");
-    struct bytes card = room(plan->version == LEGBARO_TWO_STEPS ? LEGBARO_TWO_STEP_CARD_BYTES : LEGBARO_CARD_BYTES);
-    struct bytes table = room(plan->tokens * LEGBARO_RECORD_BYTES), totals = room(LEGBARO_TOTALS_BYTES);
+    struct bytes card =
+        room(plan->version == LEGBARO_TWO_STEPS ? LEGBARO_TWO_STEP_CARD_BYTES : LEGBARO_CARD_BYTES);
+    struct bytes table = room(plan->tokens * LEGBARO_RECORD_BYTES),
+                 totals = room(LEGBARO_TOTALS_BYTES);
     struct bytes live = room(blocks.length / plan->block_bytes);
-    uint64_t result = legbaro_set_up(LENT(master), (const uint8_t *)plan->id, LEGBARO_ID_BYTES, plan->version, plan->block_bytes,
-                                     plan->rows, plan->positions, plan->tokens, live.length, LENT(blocks), LENT(card), LENT(table),
-                                     LENT(totals));
+    uint64_t result =
+        legbaro_set_up(LENT(master), (const uint8_t *)plan->id, LEGBARO_ID_BYTES, plan->version,
+                       plan->block_bytes, plan->rows, plan->positions, plan->tokens, live.length,
+                       LENT(blocks), LENT(card), LENT(table), LENT(totals));
     if (result == LEGBARO_OK) {
         store_card(card);
         write_file("owner/totals", LENT(totals));
@@ -120,7 +125,8 @@ void owner_fetches(uint64_t token)
     free(records.at);
 }
 
-/* What the owner needs for a change: its master, its card, its copy of the table, and room for totals. */
+/* What the owner needs for a change: its master, its card, its copy of the table, and room for
+ * totals. */
 struct hand {
     struct bytes master, card, table, totals;
 };
@@ -129,11 +135,13 @@ static struct hand owner_takes(void)
 {
     if (!is_there("owner/table"))
         owner_fetches(1);
-    struct hand hand = {read_file("owner/master"), read_file("owner/card"), read_file("owner/table"), room(LEGBARO_TOTALS_BYTES)};
+    struct hand hand = {read_file("owner/master"), read_file("owner/card"),
+                        read_file("owner/table"), room(LEGBARO_TOTALS_BYTES)};
     return hand;
 }
 
-/* What the owner keeps of an accepted change: the card, and the totals, which tell how many tokens cover what changed. */
+/* What the owner keeps of an accepted change: the card, and the totals, which tell how many tokens
+ * cover what changed. */
 static void owner_keeps(const struct hand *hand)
 {
     store_card(hand->card);
@@ -160,13 +168,14 @@ static void owner_puts_back(struct hand *hand, uint64_t result)
 }
 
 /* Append or load: the same arguments, and the blocks come behind the last one either way. */
-typedef uint64_t adding(uint64_t, const uint8_t *, size_t, uint8_t *, size_t, uint8_t *, size_t, const uint8_t *, size_t, uint8_t *,
-                        size_t);
+typedef uint64_t adding(uint64_t, const uint8_t *, size_t, uint8_t *, size_t, uint8_t *, size_t,
+                        const uint8_t *, size_t, uint8_t *, size_t);
 
 static uint64_t owner_adds(adding *call, uint64_t role, struct bytes blocks)
 {
     struct hand hand = owner_takes();
-    uint64_t result = call(role, LENT(hand.master), LENT(hand.card), LENT(hand.table), LENT(blocks), LENT(hand.totals));
+    uint64_t result = call(role, LENT(hand.master), LENT(hand.card), LENT(hand.table), LENT(blocks),
+                           LENT(hand.totals));
     if (result == LEGBARO_OK)
         host_adds(blocks, in_card(LEGBARO_CARD_BLOCK_BYTES, 2));
     owner_puts_back(&hand, result);
@@ -194,8 +203,8 @@ uint64_t owner_updates(uint64_t role, uint64_t number, struct bytes block)
     struct hand hand = owner_takes();
     struct bytes old = room(block.length), mark = room_for_mark();
     host_sends(number, old, mark);
-    uint64_t result = legbaro_update(role, LENT(hand.master), LENT(hand.card), LENT(hand.table), number, LENT(old), LENT(mark),
-                                     LENT(block), LENT(hand.totals));
+    uint64_t result = legbaro_update(role, LENT(hand.master), LENT(hand.card), LENT(hand.table),
+                                     number, LENT(old), LENT(mark), LENT(block), LENT(hand.totals));
     if (result == LEGBARO_OK)
         host_replaces(number, block, LEGBARO_LIVE);
     owner_puts_back(&hand, result);
@@ -210,8 +219,8 @@ uint64_t owner_deletes(uint64_t role, uint64_t number)
     size_t block_bytes = in_card(LEGBARO_CARD_BLOCK_BYTES, 2);
     struct bytes old = room(block_bytes), zeros = room(block_bytes), mark = room_for_mark();
     host_sends(number, old, mark);
-    uint64_t result = legbaro_delete(role, LENT(hand.master), LENT(hand.card), LENT(hand.table), number, LENT(old), LENT(mark),
-                                     LENT(hand.totals));
+    uint64_t result = legbaro_delete(role, LENT(hand.master), LENT(hand.card), LENT(hand.table),
+                                     number, LENT(old), LENT(mark), LENT(hand.totals));
     if (result == LEGBARO_OK)
         host_replaces(number, zeros, LEGBARO_DELETED);
     owner_puts_back(&hand, result);
@@ -221,11 +230,14 @@ uint64_t owner_deletes(uint64_t role, uint64_t number)
     return result;
 }
 
-/* Writes one item of a batch, for a version and so many block bytes; the old block and its mark come from the host. */
-static void write_item(uint8_t *item, const struct correction *correction, uint64_t version, size_t block_bytes)
+/* Writes one item of a batch, for a version and so many block bytes; the old block and its mark
+ * come from the host. */
+static void write_item(uint8_t *item, const struct correction *correction, uint64_t version,
+                       size_t block_bytes)
 {
     struct bytes old = {item + LEGBARO_ITEM_OLD, block_bytes};
-    struct bytes mark = {item + LEGBARO_ITEM_MARK(block_bytes), version == LEGBARO_WITHOUT_MARKS ? 0 : 1};
+    struct bytes mark = {item + LEGBARO_ITEM_MARK(block_bytes),
+                         version == LEGBARO_WITHOUT_MARKS ? 0 : 1};
     item[LEGBARO_ITEM_KIND] = correction->block.at ? LEGBARO_ITEM_UPDATE : LEGBARO_ITEM_DELETE;
     for (int i = 0; i < 4; i++)
         item[LEGBARO_ITEM_BLOCK + i] = (uint8_t)(correction->number >> (24 - 8 * i));
@@ -234,7 +246,8 @@ static void write_item(uint8_t *item, const struct correction *correction, uint6
         memcpy(item + LEGBARO_ITEM_NEW(version, block_bytes), correction->block.at, block_bytes);
 }
 
-/* Puts zero bytes in the place of the blocks that are deleted, and the new blocks in the place of the others. */
+/* Puts zero bytes in the place of the blocks that are deleted, and the new blocks in the place of
+ * the others. */
 static void host_corrects(const struct correction *corrections, size_t count, size_t block_bytes)
 {
     struct bytes zeros = room(block_bytes);
@@ -250,11 +263,13 @@ uint64_t owner_corrects(uint64_t role, const struct correction *corrections, siz
 {
     struct hand hand = owner_takes();
     uint64_t version = in_card(LEGBARO_CARD_VERSION, 1);
-    size_t block_bytes = in_card(LEGBARO_CARD_BLOCK_BYTES, 2), item_bytes = LEGBARO_ITEM_BYTES(version, block_bytes);
+    size_t block_bytes = in_card(LEGBARO_CARD_BLOCK_BYTES, 2),
+           item_bytes = LEGBARO_ITEM_BYTES(version, block_bytes);
     struct bytes items = room(count * item_bytes);
     for (size_t i = 0; i < count; i++)
         write_item(items.at + i * item_bytes, &corrections[i], version, block_bytes);
-    uint64_t result = legbaro_batch(role, LENT(hand.master), LENT(hand.card), LENT(hand.table), LENT(items), LENT(hand.totals));
+    uint64_t result = legbaro_batch(role, LENT(hand.master), LENT(hand.card), LENT(hand.table),
+                                    LENT(items), LENT(hand.totals));
     if (result == LEGBARO_OK)
         host_corrects(corrections, count, block_bytes);
     owner_puts_back(&hand, result);
@@ -264,13 +279,14 @@ uint64_t owner_corrects(uint64_t role, const struct correction *corrections, siz
 
 /* ---- The owner: changes in two steps ---- */
 
-/* The card is stored first. The standing table has served, and what was asked is kept until it is committed or dropped. */
+/* The card is stored first. The standing table has served, and what was asked is kept until it is
+ * committed or dropped. */
 uint64_t owner_asks_append(uint64_t role, struct bytes block)
 {
     struct hand hand = owner_takes();
     struct bytes second = room(hand.table.length);
-    uint64_t result =
-        legbaro_ask_append(role, LENT(hand.master), LENT(hand.card), LENT(hand.table), LENT(second), LENT(block), LENT(hand.totals));
+    uint64_t result = legbaro_ask_append(role, LENT(hand.master), LENT(hand.card), LENT(hand.table),
+                                         LENT(second), LENT(block), LENT(hand.totals));
     if (result == LEGBARO_OK) {
         owner_keeps(&hand);
         write_file("owner/asked-table", LENT(second));
@@ -291,7 +307,8 @@ void owner_sends_asked(void)
 /* Throws away what was asked, at the owner and as far as it came at the host. */
 static void forget_asked(void)
 {
-    static const char *const names[] = {"owner/asked-table", "owner/asked-block", "host/asked-table", "host/asked-block"};
+    static const char *const names[] = {"owner/asked-table", "owner/asked-block",
+                                        "host/asked-table", "host/asked-block"};
     for (size_t i = 0; i < sizeof names / sizeof *names; i++)
         if (is_there(names[i]))
             wipe(names[i]);

@@ -19,9 +19,12 @@ static void set_up(void)
 static void correction(void)
 {
     struct bytes corrected = samples(BAYS, STUCK, 1), half = {corrected.at, BAYS / 2};
-    printf("  A detector was stuck, and the manager is the first to see it: block %d is wrong.\n", STUCK);
-    tell("the manager updates it:", owner_updates(LEGBARO_MANAGER, STUCK, corrected), LEGBARO_NO_RIGHT);
-    tell("the manager updates it with half a sample:", owner_updates(LEGBARO_MANAGER, STUCK, half), LEGBARO_NO_RIGHT);
+    printf("  A detector was stuck, and the manager is the first to see it: block %d is wrong.\n",
+           STUCK);
+    tell("the manager updates it:", owner_updates(LEGBARO_MANAGER, STUCK, corrected),
+         LEGBARO_NO_RIGHT);
+    tell("the manager updates it with half a sample:", owner_updates(LEGBARO_MANAGER, STUCK, half),
+         LEGBARO_NO_RIGHT);
     puts("  The answer is the same whatever else is lent, and nothing has changed.");
     tell_card();
     tell("the planner updates it:", owner_updates(LEGBARO_PLANNER, STUCK, corrected), LEGBARO_OK);
@@ -31,9 +34,11 @@ static void correction(void)
 static void samples_of_a_day(void)
 {
     struct bytes day = samples(BAYS, A_WEEK, TICKS_A_DAY);
-    tell("someone whose role nobody knows loads a day's samples:", owner_loads(NO_ROLE, day), LEGBARO_NO_RIGHT);
+    tell("someone whose role nobody knows loads a day's samples:", owner_loads(NO_ROLE, day),
+         LEGBARO_NO_RIGHT);
     tell("the surveyor loads them:", owner_loads(LEGBARO_SURVEYOR, day), LEGBARO_OK);
-    tell("the surveyor deletes a block:", owner_deletes(LEGBARO_SURVEYOR, EXPIRED), LEGBARO_NO_RIGHT);
+    tell("the surveyor deletes a block:", owner_deletes(LEGBARO_SURVEYOR, EXPIRED),
+         LEGBARO_NO_RIGHT);
     tell_card();
     free(day.at);
 }

@@ -57,7 +57,8 @@ int surprises(void)
 
 void tell_files(const char *party)
 {
-    static const char *const names[] = {"master", "card", "plan", "blocks", "marks", "table", "asked-table", "asked-block"};
+    static const char *const names[] = {"master", "card",  "plan",        "blocks",
+                                        "marks",  "table", "asked-table", "asked-block"};
     char name[32];
     printf("  the %s holds:", party);
     for (size_t i = 0; i < sizeof names / sizeof *names; i++) {
@@ -73,18 +74,21 @@ void tell_card(void)
     unsigned long changes = (unsigned long)in_card(LEGBARO_CARD_COUNTER, 8);
     printf("  the card says: %lu blocks, %lu change%s so far, token %lu of %lu is drawn next\n",
            (unsigned long)in_card(LEGBARO_CARD_BLOCKS, 4), changes, changes == 1 ? "" : "s",
-           (unsigned long)in_card(LEGBARO_CARD_NEXT, 4), (unsigned long)in_card(LEGBARO_CARD_TOKENS, 4));
+           (unsigned long)in_card(LEGBARO_CARD_NEXT, 4),
+           (unsigned long)in_card(LEGBARO_CARD_TOKENS, 4));
 }
 
 void tell_work(const char *party)
 {
     printf("  the %s's totals say: %lu turns of the permutation, %lu hashes of blocks\n", party,
-           (unsigned long)in_totals(party, LEGBARO_TOTALS_TURNS), (unsigned long)in_totals(party, LEGBARO_TOTALS_HASHES));
+           (unsigned long)in_totals(party, LEGBARO_TOTALS_TURNS),
+           (unsigned long)in_totals(party, LEGBARO_TOTALS_HASHES));
 }
 
 void draw_at(struct moment now, uint64_t code)
 {
-    tell("the manager draws a token and sends the message:", owner_draws(LEGBARO_MANAGER, &now), code);
+    tell("the manager draws a token and sends the message:", owner_draws(LEGBARO_MANAGER, &now),
+         code);
 }
 
 /* A Monday at 22:15. */

@@ -30,10 +30,12 @@ void chain(void);
 /* One more car park, with parity blocks as a file of their own: parity.c. */
 void parity_beside(void);
 
-/* The samples of so many hours, end to end, counted from a car park's first: which of its bays are taken, a byte for each. */
+/* The samples of so many hours, end to end, counted from a car park's first: which of its bays are
+ * taken, a byte for each. */
 struct bytes samples(unsigned bays, unsigned first_hour, unsigned hours);
 
-/* Says how a step came out, and notes whether that is what a planner expects; answers how many steps came out otherwise. */
+/* Says how a step came out, and notes whether that is what a planner expects; answers how many
+ * steps came out otherwise. */
 void tell(const char *step, uint64_t result, uint64_t expected);
 int surprises(void);
 
@@ -44,8 +46,9 @@ void tell_card(void);
 /* Says what the owner's last accepted change, or the host's last proof, took. */
 void tell_work(const char *party);
 
-/* The first step of an audit, in closing hours or at a time with the code that is expected; and the other two with the verdict that is
- * expected, together or each alone, or for a reply that is rejected with its cause. The manager draws and judges. */
+/* The first step of an audit, in closing hours or at a time with the code that is expected; and the
+ * other two with the verdict that is expected, together or each alone, or for a reply that is
+ * rejected with its cause. The manager draws and judges. */
 void draw(void);
 void draw_at(struct moment now, uint64_t code);
 void prove(void);
@@ -53,7 +56,8 @@ void judge(uint64_t verdict);
 void prove_and_judge(uint64_t verdict);
 void prove_and_reject(uint64_t cause);
 
-/* Asks for the cause of a rejection, and says what the planner tells the host; notes whether it is the one expected. */
+/* Asks for the cause of a rejection, and says what the planner tells the host; notes whether it is
+ * the one expected. */
 void tell_cause(uint64_t expected);
 
 #endif

@@ -1,4 +1,5 @@
-/* Changes in two steps: an ask whose table does not reach the host is dropped; asked again, it is committed. */
+/* Changes in two steps: an ask whose table does not reach the host is dropped; asked again, it is
+ * committed. */
 #include "scenes.h"
 
 #include <stdio.h>
@@ -22,17 +23,21 @@ static void set_up(void)
 static void tell_steps(void)
 {
     unsigned long pending = (unsigned long)in_card(LEGBARO_CARD_PENDING_COUNTER, 8);
-    printf("  the card says: %lu blocks at counter %lu; ", (unsigned long)in_card(LEGBARO_CARD_BLOCKS, 4),
+    printf("  the card says: %lu blocks at counter %lu; ",
+           (unsigned long)in_card(LEGBARO_CARD_BLOCKS, 4),
            (unsigned long)in_card(LEGBARO_CARD_COUNTER, 8));
     if (pending)
-        printf("pending: %lu blocks at counter %lu\n", (unsigned long)in_card(LEGBARO_CARD_PENDING_BLOCKS, 4), pending);
+        printf("pending: %lu blocks at counter %lu\n",
+               (unsigned long)in_card(LEGBARO_CARD_PENDING_BLOCKS, 4), pending);
     else
-        printf("nothing is pending, and the last counter issued is %lu\n", (unsigned long)in_card(LEGBARO_CARD_LAST_ISSUED, 8));
+        printf("nothing is pending, and the last counter issued is %lu\n",
+               (unsigned long)in_card(LEGBARO_CARD_LAST_ISSUED, 8));
 }
 
 static void ask(struct bytes sample)
 {
-    tell("the surveyor asks for an append, the card is stored:", owner_asks_append(LEGBARO_SURVEYOR, sample), LEGBARO_OK);
+    tell("the surveyor asks for an append, the card is stored:",
+         owner_asks_append(LEGBARO_SURVEYOR, sample), LEGBARO_OK);
     tell_steps();
 }
 
@@ -40,8 +45,8 @@ static void ask(struct bytes sample)
 static void line_drops(void)
 {
     owner_sends_asked();
-    printf("  The line drops while the second table is on its way: %d of its %lu bytes arrive.\n", ARRIVED,
-           (unsigned long)size_of("host/asked-table"));
+    printf("  The line drops while the second table is on its way: %d of its %lu bytes arrive.\n",
+           ARRIVED, (unsigned long)size_of("host/asked-table"));
     resize_file("host/asked-table", ARRIVED);
     wipe("host/asked-block");
     tell_files("host");
@@ -51,7 +56,8 @@ static void dropped(struct bytes sample)
 {
     ask(sample);
     line_drops();
-    puts("  The owner gives this ask up. The host throws away what it got, and the table that stood stands.");
+    puts("  The owner gives this ask up. The host throws away what it got, and the table that "
+         "stood stands.");
     tell("the planner drops what is pending:", owner_drops(LEGBARO_PLANNER), LEGBARO_OK);
     tell_steps();
     draw();
@@ -79,7 +85,8 @@ void dropped_line(void)
 {
     struct bytes sample = samples(BAYS, A_WEEK, 1);
     puts("\nA LINE DROPS, IN A FILE OF VERSION 3");
-    puts("  A fourth car park has a bad line. Its changes go in two steps: each is asked, and then committed or dropped.");
+    puts("  A fourth car park has a bad line. Its changes go in two steps: each is asked, and then "
+         "committed or dropped.");
     make_folders("steps");
     set_up();
     dropped(sample);

@@ -1,10 +1,12 @@
 /*
- * One file's week: a car park's occupancy samples go to a storage host, one block a tick, a morning's corrections go there together, and
- * the host is audited. Then a new centre, which sends a month together, one with closed days, one that changes its file in two steps, one
- * where not everybody may do everything, a chain of three that is audited with one reply, and one with parity beside its file.
+ * One file's week: a car park's occupancy samples go to a storage host, one block a tick, a
+ * morning's corrections go there together, and the host is audited. Then a new centre, which sends
+ * a month together, one with closed days, one that changes its file in two steps, one where not
+ * everybody may do everything, a chain of three that is audited with one reply, and one with parity
+ * beside its file.
  *
- * Owner and host are two folders of real files in a temporary folder: parties.h. The program ends with status 0 where every step came out
- * as a planner expects it.
+ * Owner and host are two folders of real files in a temporary folder: parties.h. The program ends
+ * with status 0 where every step came out as a planner expects it.
  */
 #define _XOPEN_SOURCE 700
 #include "scenes.h"
@@ -13,7 +15,8 @@
 #include <stdlib.h>
 #include <unistd.h>
 
-/* Every audit draws all rows here, so it looks at every block. In a large file a few hundred of the rows are enough. */
+/* Every audit draws all rows here, so it looks at every block. In a large file a few hundred of the
+ * rows are enough. */
 enum { BAYS = 96, ROWS = A_WEEK, POSITIONS = ROWS, TOKENS = 6 };
 
 /* ---- The week ---- */
@@ -25,20 +28,27 @@ static void set_up(void)
     owner_begins(blocks);
     free(blocks.at);
     puts("SET-UP");
-    printf("  A car park has %d bays and sends a sample an hour: one block of %d bytes.\n", BAYS, BAYS);
+    printf("  A car park has %d bays and sends a sample an hour: one block of %d bytes.\n", BAYS,
+           BAYS);
     printf("  Last week's %d samples are the first blocks, one for each of %d rows.\n", ROWS, ROWS);
-    puts("  The file is of version 2: each block has a mark beside it, which says whether the block is live or deleted.");
-    printf("  %d tokens are made, each over all rows, and sealed in a table: enough for %d audits.\n", TOKENS, TOKENS);
-    puts("  Three people work the owner's screen: a surveyor sends samples, a manager audits the host, a planner may do everything.");
+    puts("  The file is of version 2: each block has a mark beside it, which says whether the "
+         "block is live or deleted.");
+    printf(
+        "  %d tokens are made, each over all rows, and sealed in a table: enough for %d audits.\n",
+        TOKENS, TOKENS);
+    puts("  Three people work the owner's screen: a surveyor sends samples, a manager audits the "
+         "host, a planner may do everything.");
     tell_files("owner");
-    tell("the owner sets up the file, and sends all to the host:", owner_sets_up(&plan), LEGBARO_OK);
+    tell("the owner sets up the file, and sends all to the host:", owner_sets_up(&plan),
+         LEGBARO_OK);
     wipe("owner/blocks");
     puts("  The owner's copy of the blocks is wiped.");
     tell_files("owner");
     tell_files("host");
 }
 
-/* A day's samples, one append each. Before each the host keeps a copy of its table, which it should not use again. */
+/* A day's samples, one append each. Before each the host keeps a copy of its table, which it should
+ * not use again. */
 static void day(const char *name, unsigned number)
 {
     char step[64];
@@ -58,15 +68,18 @@ static void changes(void)
     enum { STUCK = 180, EXPIRED = 5 };
     struct bytes corrected = samples(BAYS, STUCK, 1);
     puts("\nTHE WEEK");
-    puts("  At each change the owner fetches the table, seals it again for the changed file and sends it back.");
+    puts("  At each change the owner fetches the table, seals it again for the changed file and "
+         "sends it back.");
     day("Monday", 0);
     day("Tuesday", 1);
     day("Wednesday", 2);
-    printf("  A detector was stuck: the owner fetches block %d from the host and corrects it.\n", STUCK);
+    printf("  A detector was stuck: the owner fetches block %d from the host and corrects it.\n",
+           STUCK);
     tell("update:", owner_updates(LEGBARO_PLANNER, STUCK, corrected), LEGBARO_OK);
     free(corrected.at);
     day("Thursday", 3);
-    printf("  Block %d may no longer be kept: zero bytes take its place, and its mark says so.\n", EXPIRED);
+    printf("  Block %d may no longer be kept: zero bytes take its place, and its mark says so.\n",
+           EXPIRED);
     tell("deletion:", owner_deletes(LEGBARO_PLANNER, EXPIRED), LEGBARO_OK);
     day("Friday", 4);
     day("Saturday", 5);
@@ -83,14 +96,16 @@ static void audit_sound_host(void)
 {
     struct moment morning = {2026, 11, 23, 10 * 60 + 30}, evening = morning;
     puts("\nAUDIT OF THE HOST AS IT IS, IN CLOSING HOURS");
-    puts("  The host reads slowly while shops trade. The plan allows draws from 21:00 to 6:00, and on Sundays from 8:00 to 22:00.");
+    puts("  The host reads slowly while shops trade. The plan allows draws from 21:00 to 6:00, and "
+         "on Sundays from 8:00 to 22:00.");
     puts("  It is Monday, 23 November 2026, 10:30.");
     draw_at(morning, LEGBARO_OUTSIDE_WINDOWS);
     uint64_t wait = owner_waits(&morning);
     tell("the wait for a window:", wait, LEGBARO_OK);
     evening.minute += LEGBARO_NUMBER(wait);
-    printf("  It is %lu minutes: the owner draws at %lu:%02lu.\n", (unsigned long)LEGBARO_NUMBER(wait),
-           (unsigned long)evening.minute / 60, (unsigned long)evening.minute % 60);
+    printf("  It is %lu minutes: the owner draws at %lu:%02lu.\n",
+           (unsigned long)LEGBARO_NUMBER(wait), (unsigned long)evening.minute / 60,
+           (unsigned long)evening.minute % 60);
     draw_at(evening, LEGBARO_OK);
     prove_and_judge(LEGBARO_OK);
     puts("  The host holds every block, the newest too: the signs may be calibrated.");
@@ -107,8 +122,10 @@ static void line_drops_in(uint64_t token)
 /* What the number with code 7 is for. */
 static void fetch_from(uint64_t token)
 {
-    printf("  Record %lu is named, the lowest unused one that does not open. The owner fetches the records from %lu on again: %lu bytes.\n",
-           (unsigned long)token, (unsigned long)token, (unsigned long)((TOKENS + 1 - token) * LEGBARO_RECORD_BYTES));
+    printf("  Record %lu is named, the lowest unused one that does not open. The owner fetches the "
+           "records from %lu on again: %lu bytes.\n",
+           (unsigned long)token, (unsigned long)token,
+           (unsigned long)((TOKENS + 1 - token) * LEGBARO_RECORD_BYTES));
     owner_fetches(token);
 }
 
@@ -117,7 +134,8 @@ static void bad_record(void)
     enum { STUCK = 200, DROPPED_IN = 3 };
     struct bytes corrected = samples(BAYS, STUCK, 1);
     puts("\nA RECORD DAMAGED ON THE WAY");
-    printf("  Block %d is to be corrected too. The owner fetches the table, but the line drops in record %d: the rest is zero bytes.\n",
+    printf("  Block %d is to be corrected too. The owner fetches the table, but the line drops in "
+           "record %d: the rest is zero bytes.\n",
            STUCK, DROPPED_IN);
     owner_fetches(1);
     line_drops_in(DROPPED_IN);
@@ -185,6 +203,7 @@ int main(void)
     parity_beside();
     if (chdir("/") != 0 || rmdir(folder) != 0)
         stop("remove", folder);
-    printf("\n%s\n", surprises() ? "Some steps did not come out as expected." : "Every step came out as expected.");
+    printf("\n%s\n", surprises() ? "Some steps did not come out as expected."
+                                 : "Every step came out as expected.");
     return surprises() != 0;
 }

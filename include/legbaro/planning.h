@@ -11,18 +11,24 @@
 extern "C" {
 #endif
 
+/* clang-format off */
+
 /*
- * Positions, for who plans a file: how many positions r to set up with, where the file has fewer blocks than rows.
+ * Positions, for who plans a file: how many positions r to set up with, where the file has fewer
+ * blocks than rows.
  *
- *   positions  how many of the blocks present an audit is to look at: 1 to LEGBARO_MOST_POSITIONS, and no more than present
+ *   positions  how many of the blocks present an audit is to look at: 1 to LEGBARO_MOST_POSITIONS,
+ *              and no more than present
  *   planned    the rows d: 1 to LEGBARO_MOST_ROWS
  *   present    the number of blocks that the file has at set-up: 1 to planned
  *
- * Returns code 0 and the number positions * planned / present, rounded up. At first the rows 1 to present alone have a block. With this
- * many positions a token draws at least `positions` of them on the average, and an audit looks at each block with at least the chance
- * that it would have if `positions` of `present` rows were drawn. As loads and appends fill the rows, that chance stays: it is the number
- * returned divided by planned.
- * Codes: 3, 13. With 13 an audit can't look at so many: ask for fewer positions, plan fewer rows, or set up with more blocks.
+ * Returns code 0 and the number positions * planned / present, rounded up. At first the rows 1 to
+ * present alone have a block. With this many positions a token draws at least `positions` of them
+ * on the average, and an audit looks at each block with at least the chance that it would have if
+ * `positions` of `present` rows were drawn. As loads and appends fill the rows, that chance stays:
+ * it is the number returned divided by planned.
+ * Codes: 3, 13. With 13 an audit can't look at so many: ask for fewer positions, plan fewer rows,
+ * or set up with more blocks.
  */
 uint64_t legbaro_positions(uint64_t positions, uint64_t planned, uint64_t present);
 
@@ -31,24 +37,31 @@ uint64_t legbaro_positions(uint64_t positions, uint64_t planned, uint64_t presen
  *
  *   block_bytes, rows, positions, tokens, blocks_count   B, d, r, t and n, as for a set-up
  *   damaged    how many of the rows are lost at the host, or altered: 0 to rows
- *   out        LEGBARO_SHEET_BYTES, written: five numbers of 8 bytes, big-endian, at the offsets below
+ *   out        LEGBARO_SHEET_BYTES, written: five numbers of 8 bytes, big-endian, at the offsets
+ *              below
  *
- * The hashes of a proof are the blocks that the host reads for it. The two numbers are the same where all rows have equally many blocks.
- * The chance of escape is the chance that one audit, which draws `positions` different rows, draws none of the damaged ones. The figure is
- * never under the exact chance, and less than `positions` units above it. It is 0 exactly where some damaged row is always drawn, and
- * LEGBARO_ESCAPE_ONE, a chance of 1, with no row damaged.
+ * The hashes of a proof are the blocks that the host reads for it. The two numbers are the same
+ * where all rows have equally many blocks. The chance of escape is the chance that one audit, which
+ * draws `positions` different rows, draws none of the damaged ones. The figure is never under the
+ * exact chance, and less than `positions` units above it. It is 0 exactly where some damaged row is
+ * always drawn, and LEGBARO_ESCAPE_ONE, a chance of 1, with no row damaged.
  * Codes: 1 (out), 3, 21.
  */
-uint64_t legbaro_sheet(uint64_t block_bytes, uint64_t rows, uint64_t positions, uint64_t tokens, uint64_t blocks_count,
-                       uint64_t damaged,
+uint64_t legbaro_sheet(uint64_t block_bytes, uint64_t rows, uint64_t positions,
+                       uint64_t tokens, uint64_t blocks_count, uint64_t damaged,
                        uint8_t *out, size_t out_length);
 
 #define LEGBARO_SHEET_TABLE 0   /* the bytes of the table, which the host keeps beside the blocks */
-#define LEGBARO_SHEET_TURNS 8   /* a ceiling on the turns of the permutation that one token takes, whatever its key */
-#define LEGBARO_SHEET_LEAST 16  /* the least hashes of blocks for one proof, whatever rows it draws */
+#define LEGBARO_SHEET_TURNS 8   /* a ceiling on the turns of the permutation that one token takes,
+                                   whatever its key */
+#define LEGBARO_SHEET_LEAST 16  /* the least hashes of blocks for one proof, whatever rows it draws
+                                   */
 #define LEGBARO_SHEET_MOST 24   /* the most */
-#define LEGBARO_SHEET_ESCAPE 32 /* the chance of escape, in units of 2^-32: divided by LEGBARO_ESCAPE_ONE it is the chance */
+#define LEGBARO_SHEET_ESCAPE 32 /* the chance of escape, in units of 2^-32: divided by
+                                   LEGBARO_ESCAPE_ONE it is the chance */
 #define LEGBARO_ESCAPE_ONE 4294967296u
+
+/* clang-format on */
 
 #ifdef __cplusplus
 }
