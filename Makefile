@@ -16,6 +16,7 @@
 .PHONY: command demo try-command week sheet lib install test compare chosen bench headline prove
 
 PREFIX ?= /usr/local
+LIBDIR ?= $(PREFIX)/lib
 CFLAGS ?= -O2
 CPU ?=
 MODULE := target/module
@@ -29,9 +30,9 @@ SHARED := $(wildcard tests/reference/*.[ch] tests/support/*.[ch])
 command: $(OUT)/legbaro
 
 $(OUT)/legbaro: $(wildcard command/*.c command/*.h) $(LIB)/liblegbaro.a $(HEADERS)
-	@tools/needs cc
+	@tools/needs cc zlib
 	@mkdir -p $(OUT)
-	$(COMPILE) $(filter %.c,$^) -o $@ $(LINK) -lm
+	$(COMPILE) $(filter %.c,$^) -o $@ $(LDFLAGS) $(LINK) -lm -l:libz.a
 
 demo: $(OUT)/legbaro
 	@command/demo $<
@@ -72,9 +73,9 @@ install: lib command
 	install -D -m 644 command/completion.bash $(DESTDIR)$(PREFIX)/share/bash-completion/completions/legbaro
 	install -D -m 644 -t $(DESTDIR)$(PREFIX)/include $(LIB)/legbaro.h
 	install -D -m 644 -t $(DESTDIR)$(PREFIX)/include/legbaro $(LIB)/legbaro/*.h
-	install -D -m 644 $(LIB)/liblegbaro.a $(DESTDIR)$(PREFIX)/lib/liblegbaro.a
-	install -d $(DESTDIR)$(PREFIX)/lib/pkgconfig
-	sed 's|@PREFIX@|$(abspath $(PREFIX))|' legbaro.pc.in > $(DESTDIR)$(PREFIX)/lib/pkgconfig/legbaro.pc
+	install -D -m 644 $(LIB)/liblegbaro.a $(DESTDIR)$(LIBDIR)/liblegbaro.a
+	install -d $(DESTDIR)$(LIBDIR)/pkgconfig
+	sed 's|@PREFIX@|$(abspath $(PREFIX))|; s|@LIBDIR@|$(abspath $(LIBDIR))|; s|@VERSION@|$(VERSION)|' legbaro.pc.in > $(DESTDIR)$(LIBDIR)/pkgconfig/legbaro.pc
 
 test:
 	@tools/gate
@@ -109,3 +110,6 @@ $(OUT)/bench: $(wildcard bench/*.c bench/*.h) $(SHARED) $(LIB)/liblegbaro.a $(HE
 
 prove:
 	rt check
+
+# The shared library, packages, archives of a release, and fuzzing.
+include tools/release.mk

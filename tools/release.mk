@@ -1,0 +1,58 @@
+# What a release consists of, beside the archive and the command: the Makefile includes this file.
+#
+# make shared             the shared library, in target/shared
+# make compare-shared     the C tests against the shared library
+# make packages           the Debian packages, in target/packages
+# make try-packages       installs, uses and removes the packages in minimal Debian roots
+# make dist               the static command in an archive, and the source archive, in target/dist
+# make reproducible       builds everything again in another folder, and compares every byte
+# make fuzz               fuzzes the command and the library for FUZZ_SECONDS each, 60 by default
+.PHONY: shared compare-shared packages try-packages dist reproducible fuzz install-shared
+
+MACHINE ?= $(shell uname -m)
+ifneq ($(MACHINE),x86_64)
+$(error Legbaro is built on x86_64 alone, and this is $(MACHINE): the Rattle toolchain compiles \
+the proved code for x86_64, and the gate tests no other processor)
+endif
+
+VERSION := $(shell tools/version)
+SO := target/shared$(CPU:%=-%)
+SO_FILE := $(SO)/liblegbaro.so.$(VERSION)
+
+shared: $(SO_FILE)
+
+$(SO_FILE): $(LIB)/liblegbaro.a tools/shared tools/liblegbaro.map tools/version include/legbaro.h
+	@tools/needs cc
+	CC='$(CC)' tools/shared $< $(SO) $(CFLAGS) $(LDFLAGS)
+
+install: install-shared
+
+install-shared: shared
+	install -D -m 644 -t $(DESTDIR)$(LIBDIR) $(SO_FILE)
+	cp -P $(SO)/liblegbaro.so $(SO)/liblegbaro.so.$(firstword $(subst ., ,$(VERSION))) $(DESTDIR)$(LIBDIR)
+
+compare-shared: $(OUT)/tests-shared
+	@$(OUT)/tests-shared
+
+$(OUT)/tests-shared: $(wildcard tests/cases/*.[ch]) $(SHARED) $(SO_FILE) $(HEADERS)
+	@tools/needs cc libcrypto isal
+	@mkdir -p $(OUT)
+	$(COMPILE) -Itests -pthread $(filter %.c,$^) -o $@ -L$(SO) -Wl,-rpath,$(abspath $(SO)) -llegbaro -lcrypto -lisal
+
+packages: lib shared command
+	@tools/needs debhelper lintian
+	tools/packages
+
+try-packages: packages
+	@tools/needs debootstrap
+	tools/try-packages
+
+dist: lib command
+	tools/dist
+
+reproducible: packages dist
+	tools/reproducible
+
+fuzz: lib
+	@tools/needs libfuzzer libcrypto isal zlib
+	tools/fuzz $(FUZZ_SECONDS)
