@@ -1,37 +1,45 @@
 /* The command apply, the host's. */
 #include "commands.h"
 #include "host.h"
+#include "receipt.h"
 #include "report.h"
 
 #include "legbaro.h"
 
 #include <inttypes.h>
+#include <string.h>
 
-static int in_place(const struct host *host, const struct change *c)
+/* Refuses a file of the host that is not as long as what stands. Where a damaged `applying` was being
+ * put in place, it may be longer. */
+static void refuse_size(const struct host *host, const char *name, uint64_t length)
 {
-    return host->begun && c->counter == host->stands.counter && c->blocks_after == host->stands.blocks_after &&
-           c->blocks_before == host->stands.blocks_before && c->count == host->stands.count;
+    static const char *const lost =
+        "The host has lost what it was to keep: put the file back from a copy first.";
+    const char *path = path_in(host->folder.path, name);
+    if (!host->damaged || map_file(path).length < length)
+        map_whole(path, length, "what stands", lost);
 }
 
-/* A change fits what stands: it follows it, and the files have the sizes that stand. */
+/* Refuses a change that does not follow what stands, and files that are not as long as what stands. */
 static void refuse_unfit(const struct host *host, const struct change *c, const char *path)
 {
     const struct change *s = &host->stands;
+    about(path);
     if (!host->begun) {
         if (c->blocks_before)
-            refuse(TURNED_AWAY, "Apply the change of the set-up first.", "%s follows counter %" PRIu64 ", and this folder holds no file",
-                   path, c->counter_before);
+            refuse(TURNED_AWAY, "Apply the change of the set-up first.",
+                   "%s follows counter %" PRIu64 ", and this folder holds no file", path,
+                   c->counter_before);
         return;
     }
-    if (c->counter_before != s->counter || c->blocks_before != s->blocks_after || c->version != s->version ||
-        c->block_bytes != s->block_bytes || c->tokens != s->tokens)
+    if (!follows(host, c))
         refuse(TURNED_AWAY, "Ask the owner for the change that follows what stands.",
-               "%s follows counter %" PRIu64 " with %" PRIu64 " blocks, and counter %" PRIu64 " with %" PRIu64 " blocks stands", path,
-               c->counter_before, c->blocks_before, s->counter, s->blocks_after);
-    const char *lost = "The host has lost what it was to keep: put the file back from a copy first.";
-    map_whole(path_in(host->folder.path, "blocks"), s->blocks_after * s->block_bytes, "what stands", lost);
+               "%s follows counter %" PRIu64 " with %" PRIu64 " blocks, and counter %" PRIu64
+               " with %" PRIu64 " blocks stands",
+               path, c->counter_before, c->blocks_before, s->counter, s->blocks_after);
+    refuse_size(host, "blocks", s->blocks_after * s->block_bytes);
     if (s->version != LEGBARO_WITHOUT_MARKS)
-        map_whole(path_in(host->folder.path, "marks"), s->blocks_after, "what stands", lost);
+        refuse_size(host, "marks", s->blocks_after);
 }
 
 static void tell_stands(const struct change *c)
@@ -44,15 +52,72 @@ static void tell_stands(const struct change *c)
 /* Without a change, what a command that stopped left half in place is put there. */
 static int go_on(const struct options *o)
 {
-    struct host host = open_host(o->folder, 0);
+    if (o->committed || o->check)
+        refuse(WRONG_USE, "Write 'legbaro apply --check CHANGE' or 'legbaro apply --committed RECEIPT CHANGE'.",
+               "the change that %s is about is missing", o->check ? "--check" : "--committed");
+    struct host host = open_host(o->folder, 0, 0);
     if (host.begun)
         tell_stands(&host.stands);
     if (host.went_on)
-        say("what was half in place is in place now: file %s has %" PRIu64 " blocks at counter %" PRIu64, id_words(host.stands.id),
-            host.stands.blocks_after, host.stands.counter);
+        say("what was half in place is in place now: file %s has %" PRIu64
+            " blocks at counter %" PRIu64,
+            id_words(host.stands.id), host.stands.blocks_after, host.stands.counter);
     else
         say("nothing is half in place");
     return ended(DONE);
+}
+
+/* A change with the numbers of the one that stands: it is that one, or another. */
+static int tell_in_place(const struct host *host, const struct change *c, const char *path)
+{
+    if (host->damaged)
+        refuse_damaged(host);
+    const char *other = differs(host, c);
+    about(path);
+    if (other && !strcmp(other, "table"))
+        refuse(TURNED_AWAY,
+               "Ask the owner which of the two stands, and under which key. If it is this one, the "
+               "host's table was altered: put it back from a copy. Nothing has changed.",
+               "%s is not the change in place: it has the same counter, %" PRIu64
+               ", and another table",
+               path, c->counter);
+    if (other)
+        refuse(TURNED_AWAY,
+               "The host has lost what it was to keep: put the file back from a copy first. Nothing "
+               "has changed.",
+               "%s is the change in place by its table, and %s has other %s than it brought", path,
+               path_in(host->folder.path, other), other);
+    say("the change is in place already: file %s has %" PRIu64 " blocks at counter %" PRIu64,
+        id_words(c->id), c->blocks_after, c->counter);
+    return ended(DONE);
+}
+
+static int tell_fits(const struct change *c, const char *path)
+{
+    say("%s is whole and fits: with it file %s has %" PRIu64 " blocks at counter %" PRIu64, path,
+        id_words(c->id), c->blocks_after, c->counter);
+    say(c->asked ? "next: tell the owner, who commits and sends 'committed'; then 'legbaro apply "
+                   "--committed committed %s'"
+                 : "next: 'legbaro apply %s'",
+        path);
+    return ended(DONE);
+}
+
+/* A change that was asked stands only when the owner has committed it, which the receipt shows. */
+static void needs_receipt(const struct options *o, const struct change *c, const char *path)
+{
+    if (!c->asked)
+        return;
+    if (!o->committed)
+        refuse(TURNED_AWAY,
+               text("Tell the owner that it is here whole. The commit makes the file 'committed': with "
+                    "it run 'legbaro apply --committed committed %s'.",
+                    path),
+               "%s is asked, and stands only when the owner has committed it", path);
+    if (!check_receipt(o->committed, c, path))
+        say("warning: %s has no checksum, since the owner no longer had the change: look whether %s is "
+            "the one that was sent last",
+            input_words(o->committed), path);
 }
 
 int run_apply(const struct options *o)
@@ -61,28 +126,20 @@ int run_apply(const struct options *o)
         return go_on(o);
     const char *path = o->words[0];
     struct change c = read_change(path);
-    struct host host = open_host(o->folder, !o->check && !c.blocks_before);
+    struct host host = open_host(o->folder, !o->check && !c.blocks_before, 1);
     refuse_other_file(&host, c.id, path);
     tell_stands(&c);
-    if (in_place(&host, &c)) {
-        say("the change is in place already: file %s has %" PRIu64 " blocks at counter %" PRIu64, id_words(c.id), c.blocks_after,
-            c.counter);
-        return ended(DONE);
-    }
+    if (has_its_numbers(&host, &c))
+        return tell_in_place(&host, &c, path);
     refuse_unfit(&host, &c, path);
-    if (o->check) {
-        say("%s is whole and fits: with it file %s has %" PRIu64 " blocks at counter %" PRIu64, path, id_words(c.id), c.blocks_after,
-            c.counter);
-        say(c.asked ? "next: tell the owner, who commits; then 'legbaro apply --committed %s'" : "next: 'legbaro apply %s'", path);
-        return ended(DONE);
-    }
-    if (c.asked && !o->committed)
-        refuse(TURNED_AWAY, text("Tell the owner that it is here whole; once it is committed, run 'legbaro apply --committed %s'.", path),
-               "%s is asked, and stands only when the owner has committed it", path);
+    if (o->check)
+        return tell_fits(&c, path);
+    needs_receipt(o, &c, path);
     if (host.begun)
         put_in_place(&host, &c);
     else
         begin_file(&host, &c);
-    say("file %s has %" PRIu64 " blocks at counter %" PRIu64, id_words(c.id), c.blocks_after, c.counter);
+    say("file %s has %" PRIu64 " blocks at counter %" PRIu64, id_words(c.id), c.blocks_after,
+        c.counter);
     return ended(DONE);
 }

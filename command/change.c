@@ -1,5 +1,6 @@
 /* See change.h. */
 #include "change.h"
+#include "progress.h"
 #include "report.h"
 
 #include "legbaro.h"
@@ -7,11 +8,12 @@
 #include <ctype.h>
 #include <inttypes.h>
 #include <string.h>
+#include <zlib.h>
 
-enum { MAGIC_BYTES = 8, SUM_BYTES = 4 };
+enum { MAGIC_BYTES = 8 };
 static const char magic[] = "legbaro\n";
 
-/* Where a header has what, behind the magic. */
+/* Where a header has what, after the magic. */
 enum {
     VERSION = 8,
     ID = 9,
@@ -25,21 +27,21 @@ enum {
     ASKED = 51
 };
 
-/* ---- CRC-32, as IEEE 802.3 has it ---- */
+/* ---- Checksums ---- */
 
-static uint32_t crc(uint32_t sum, const uint8_t *at, size_t length)
+/* So many bytes are summed at once, so that progress can be shown between them. */
+enum { MOST_AT_ONCE = 1 << 24 };
+
+uint32_t checksum_of(uint32_t before, const uint8_t *at, size_t length)
 {
-    static uint32_t of_byte[256];
-    for (uint32_t byte = 0; !of_byte[255] && byte < 256; byte++) {
-        uint32_t rest = byte;
-        for (int bit = 0; bit < 8; bit++)
-            rest = rest >> 1 ^ (rest & 1 ? 0xedb88320u : 0);
-        of_byte[byte] = rest;
+    unsigned long sum = before;
+    for (size_t done = 0; done < length;) {
+        size_t part = length - done < MOST_AT_ONCE ? length - done : MOST_AT_ONCE;
+        sum = crc32_z(sum, at + done, part);
+        done += part;
+        progressed(part);
     }
-    sum = ~sum;
-    for (size_t i = 0; i < length; i++)
-        sum = sum >> 8 ^ of_byte[(sum ^ at[i]) & 255];
-    return ~sum;
+    return (uint32_t)sum;
 }
 
 /* ---- Writing ---- */
@@ -54,6 +56,8 @@ struct change change_from(struct bytes card)
         .counter_before = number_at(card.at + LEGBARO_CARD_COUNTER, 8),
         .id = card.at + LEGBARO_CARD_ID,
         .items = room(0),
+        .blocks = room(0),
+        .table = room(0),
     };
     return change;
 }
@@ -63,16 +67,10 @@ int change_adds(const struct change *change)
     return change->blocks_after != change->blocks_before;
 }
 
-const struct piece *change_pieces(const struct change *change)
+const struct piece *header_piece(const struct change *change)
 {
-    static uint8_t header[CHANGE_HEADER_BYTES], sum[SUM_BYTES];
-    static struct piece pieces[CHANGE_PIECES];
-    const struct piece now[] = {{header, sizeof header},
-                                {change->items.at, change->items.length},
-                                {change->blocks.at, change->blocks.length},
-                                {change->table.at, change->table.length},
-                                {sum, sizeof sum}};
-    uint32_t so_far = 0;
+    static uint8_t header[CHANGE_HEADER_BYTES];
+    static struct piece piece = {header, sizeof header};
     memcpy(header, magic, MAGIC_BYTES);
     memcpy(header + ID, change->id, LEGBARO_ID_BYTES);
     put_number(header + VERSION, 1, change->version);
@@ -84,10 +82,25 @@ const struct piece *change_pieces(const struct change *change)
     put_number(header + COUNTER, 8, change->counter);
     put_number(header + COUNT, 4, change->count);
     put_number(header + ASKED, 1, change->asked);
+    return &piece;
+}
+
+const struct piece *change_pieces(const struct change *change)
+{
+    static uint8_t checksum[CHECKSUM_BYTES];
+    static struct piece pieces[CHANGE_PIECES];
+    const struct piece now[] = {*header_piece(change),
+                                {change->items.at, change->items.length},
+                                {change->blocks.at, change->blocks.length},
+                                {change->table.at, change->table.length},
+                                {checksum, sizeof checksum}};
+    uint32_t so_far = 0;
     memcpy(pieces, now, sizeof now);
+    progress_of("summed", change->blocks.length + change->table.length);
     for (int i = 0; i < CHANGE_PIECES - 1; i++)
-        so_far = crc(so_far, pieces[i].at, pieces[i].length);
-    put_number(sum, sizeof sum, so_far);
+        so_far = checksum_of(so_far, pieces[i].at, pieces[i].length);
+    progress_over();
+    put_number(checksum, sizeof checksum, so_far);
     return pieces;
 }
 
@@ -133,35 +146,90 @@ static int sound_items(const struct change *c)
     return 1;
 }
 
+int is_header(struct bytes header)
+{
+    if (header.length < CHANGE_HEADER_BYTES || memcmp(header.at, magic, MAGIC_BYTES))
+        return 0;
+    struct change change = change_of_header(header.at);
+    return sound(&change);
+}
+
+/* Where the parts of a change lie in a file's bytes; `added` says whether added blocks are there.
+ * Returns the length of all parts before the checksum. */
+static uint64_t find_parts(struct change *c, uint8_t *file, int added)
+{
+    c->items.at = file + CHANGE_HEADER_BYTES;
+    c->items.length = change_adds(c) ? 0 : c->count * CHANGE_ITEM_BYTES;
+    c->blocks.at = c->items.at + c->items.length;
+    c->blocks.length = change_adds(c) && !added ? 0 : c->count * c->block_bytes;
+    c->table.at = c->blocks.at + c->blocks.length;
+    c->table.length = c->tokens * LEGBARO_RECORD_BYTES;
+    return CHANGE_HEADER_BYTES + c->items.length + c->blocks.length + c->table.length;
+}
+
 int peek_change(const char *path, struct change *change)
 {
-    struct bytes file = map_file(path);
-    if (file.length < CHANGE_HEADER_BYTES || memcmp(file.at, magic, MAGIC_BYTES))
+    struct bytes header = room(CHANGE_HEADER_BYTES);
+    uint64_t length;
+    if (!read_part(path, 0, header, &length) || !is_header(header))
         return 0;
-    *change = change_of_header(file.at);
-    return sound(change);
+    *change = change_of_header(header.at);
+    return 1;
+}
+
+int peek_checksum(const char *path, uint32_t *checksum)
+{
+    struct bytes bytes = room(CHECKSUM_BYTES), none = room(0);
+    struct change change;
+    uint64_t length;
+    if (!peek_change(path, &change))
+        return 0;
+    uint64_t before = find_parts(&change, none.at, 1);
+    if (!read_part(path, before, bytes, &length) || length != before + CHECKSUM_BYTES)
+        return 0;
+    *checksum = (uint32_t)number_at(bytes.at, CHECKSUM_BYTES);
+    return 1;
+}
+
+/* Whether a change's checksum is right, and its items name blocks. The length is. */
+static int is_whole(struct change *c, struct bytes file)
+{
+    size_t before = file.length - CHECKSUM_BYTES;
+    progress_of("summed", before);
+    c->checksum = checksum_of(0, file.at, before);
+    progress_over();
+    return number_at(file.at + before, CHECKSUM_BYTES) == c->checksum && sound_items(c);
 }
 
 struct change read_change(const char *path)
 {
-    static const char *const again = "Ask the owner to send the file 'change' again. Nothing has changed.";
+    static const char *const again =
+        "Ask the owner to send the file 'change' again. Nothing has changed.";
     struct bytes file = map_file(path);
     struct change c;
     about(path);
-    if (!peek_change(path, &c))
+    if (!is_header(file))
         refuse(TURNED_AWAY, again, "%s, of %zu bytes, is no change, or is cut", path, file.length);
-    c.items.at = file.at + CHANGE_HEADER_BYTES;
-    c.items.length = change_adds(&c) ? 0 : c.count * CHANGE_ITEM_BYTES;
-    c.blocks.at = c.items.at + c.items.length;
-    c.blocks.length = c.count * c.block_bytes;
-    c.table.at = c.blocks.at + c.blocks.length;
-    c.table.length = c.tokens * LEGBARO_RECORD_BYTES;
-    uint64_t behind = CHANGE_HEADER_BYTES + c.items.length + c.blocks.length + c.table.length;
-    if (file.length != behind + SUM_BYTES)
-        refuse(TURNED_AWAY, again, "%s has %zu bytes, and by its header %" PRIu64, path, file.length, behind + SUM_BYTES);
-    if (number_at(file.at + behind, SUM_BYTES) != crc(0, file.at, behind) || !sound_items(&c))
-        refuse(TURNED_AWAY, again, "%s came to harm: its sum does not fit", path);
+    c = change_of_header(file.at);
+    uint64_t length = find_parts(&c, file.at, 1) + CHECKSUM_BYTES;
+    if (file.length != length)
+        refuse(TURNED_AWAY, again, "%s has %zu bytes, and by its header %" PRIu64, path, file.length,
+               length);
+    if (!is_whole(&c, file))
+        refuse(TURNED_AWAY, again, "%s is damaged: its checksum does not fit", path);
     return c;
+}
+
+int read_applying(const char *path, struct change *change)
+{
+    struct bytes file = map_file(path);
+    if (!is_header(file))
+        return 0;
+    *change = change_of_header(file.at);
+    for (int added = 0; added <= 1; added++)
+        if (file.length == find_parts(change, file.at, added) + CHECKSUM_BYTES)
+            return is_whole(change, file);
+    return 0;
 }
 
 const char *id_words(const uint8_t *id)

@@ -4,9 +4,10 @@
 #include "commands.h"
 #include "fetched.h"
 #include "owner.h"
+#include "progress.h"
+#include "receipt.h"
 #include "report.h"
 #include "tell.h"
-#include "work.h"
 
 #include "legbaro.h"
 
@@ -175,7 +176,7 @@ static int finish(struct making *m)
 {
     uint64_t next = in_card(m->owner.card, LEGBARO_CARD_NEXT, 4);
     struct watch watch = {(int)m->o->progress, m->second, next, last_issued(m->owner.card) + 1};
-    uint64_t result = work(call, m, &watch);
+    uint64_t result = with_progress(call, m, &watch);
     if (LEGBARO_CODE(result) == LEGBARO_BAD_RECORD)
         refuse_older_record(m->o->host, &m->owner, m->table.at + (LEGBARO_TOKEN(result) - 1) * LEGBARO_RECORD_BYTES);
     if (result != LEGBARO_OK)
@@ -242,27 +243,43 @@ int run_batch(const struct options *o)
 
 /* ---- Commit and drop ---- */
 
-static int end_pending(const struct options *o, uint64_t (*call)(uint64_t, uint8_t *, size_t), const char *done, const char *next)
+typedef uint64_t ending(uint64_t role, uint8_t *card, size_t length);
+
+/* Ends what is pending by a call on the card. A commit leaves a receipt; a drop leaves none. */
+static int end_pending(const struct options *o, ending *call, const char *done, const char *next)
 {
     struct bytes none = room(0);
     refuse_without_right(call(o->role, LENT(none)), o);
     struct owner owner = open_owner(o, 0);
-    uint64_t was = pending(owner.card), result = call(o->role, LENT(owner.card));
+    struct bytes card = copy_of(owner.card);
+    uint64_t was = pending(card), result = call(o->role, LENT(owner.card));
+    int commits = call == legbaro_commit, known = 1;
     if (result != LEGBARO_OK)
         turn_away(result, path_in(o->folder, "card"));
     settle(&owner);
+    if (commits)
+        known = prepare_receipt(&owner.folder, card);
     store_card(&owner);
     field("counter", in_card(owner.card, LEGBARO_CARD_COUNTER, 8));
     field("blocks", in_card(owner.card, LEGBARO_CARD_BLOCKS, 4));
+    if (commits)
+        field("checksum_known", (uint64_t)known);
     say("the change at counter %" PRIu64 " %s: %" PRIu64 " blocks at counter %" PRIu64, was, done,
         in_card(owner.card, LEGBARO_CARD_BLOCKS, 4), in_card(owner.card, LEGBARO_CARD_COUNTER, 8));
+    if (!known)
+        say("warning: %s is not there or is damaged. Unless the host has it whole, this file can't be "
+            "changed or audited any more",
+            path_in(o->folder, "change"));
     say("next: %s", next);
     return ended(DONE);
 }
 
 int run_commit(const struct options *o)
 {
-    return end_pending(o, legbaro_commit, "stands", "tell the host, who runs 'legbaro apply --committed change'");
+    return end_pending(o, legbaro_commit, "stands",
+                       text("send %s and %s to the host, who runs 'legbaro apply --committed "
+                            "committed change'",
+                            path_in(o->folder, "change"), path_in(o->folder, "committed")));
 }
 
 int run_drop(const struct options *o)

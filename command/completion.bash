@@ -38,14 +38,15 @@ _legbaro_options() { # COMMAND SECOND
     append | load | batch) echo --role --host --key --progress ;;
     update | delete) echo --role --host --key --progress --old --mark ;;
     commit | drop) echo --role ;;
-    draw) echo --role --key --plan --at ;;
+    draw) echo --role --key --plan --at --again ;;
     wait) echo --plan --at ;;
-    cause | judge | judge-pool) echo --role --key ;;
-    apply) echo --check --committed ;;
-    prove | pool) echo --out ;;
+    cause) echo --role --key ;;
+    judge | judge-pool) echo --role --key --close ;;
+    apply) echo --check --committed --progress ;;
+    prove | pool) echo --out --force ;;
     positions) echo --positions --rows --blocks ;;
-    sheet) echo --block-bytes --rows --positions --tokens --blocks --damaged --svg ;;
-    parity) echo --block-bytes --data --parity --out "$([ "$2" != rebuild ] || echo --lost --lost-parity)" ;;
+    sheet) echo --block-bytes --rows --positions --tokens --blocks --damaged --svg --force ;;
+    parity) echo --block-bytes --data --parity --out --force "$([ "$2" != rebuild ] || echo --lost --lost-parity)" ;;
     esac
 }
 

@@ -1,7 +1,7 @@
 /* See fetched.h. */
 #include "fetched.h"
+#include "progress.h"
 #include "report.h"
-#include "work.h"
 
 #include "legbaro.h"
 
@@ -28,9 +28,9 @@ static void refuse_unapplied(const struct owner *owner, const char *path, uint64
         return;
     about(path);
     refuse(TURNED_AWAY,
-           text("%s %s to the host, who runs 'legbaro apply%s change', unless that is done; then fetch the host's files again.",
+           text("%s %s%s to the host, who runs 'legbaro apply%s change', unless that is done; then fetch the host's files again.",
                 stopped ? "Run 'legbaro show': it finishes the command that was stopped. Then send" : "Send", change,
-                last.asked ? " --committed" : ""),
+                last.asked ? " and 'committed' beside it" : "", last.asked ? " --committed committed" : ""),
            "%s is of counter %" PRIu64 ", and the change at counter %" PRIu64 " is made and not in place there", path, counter,
            last.counter);
 }

@@ -90,6 +90,30 @@ void put_number(uint8_t *at, unsigned width, uint64_t number)
 
 /* ---- Files that are read ---- */
 
+/* The files that were opened to be read, by device and inode. */
+static struct seen {
+    struct seen *next;
+    dev_t device;
+    ino_t inode;
+} *seen;
+
+static void note_read(const struct stat *status)
+{
+    struct seen *file = (struct seen *)room(sizeof *file).at;
+    file->next = seen;
+    file->device = status->st_dev;
+    file->inode = status->st_ino;
+    seen = file;
+}
+
+int was_read(const struct stat *status)
+{
+    for (const struct seen *file = seen; file; file = file->next)
+        if (file->device == status->st_dev && file->inode == status->st_ino)
+            return 1;
+    return 0;
+}
+
 static int is_standard_input(const char *path)
 {
     return !strcmp(path, "-");
@@ -114,6 +138,19 @@ static int open_input(const char *path, int how, struct stat *status)
         errno = EISDIR;
         file_fault("read", path);
     }
+    note_read(status);
+    return file;
+}
+
+/* Opens a regular file to be read, and writes its status. */
+static int open_regular(const char *path, struct stat *status)
+{
+    int file = open_input(path, O_NONBLOCK, status);
+    if (!S_ISREG(status->st_mode)) {
+        about(path);
+        refuse(BAD_FILE, "Write it to a file first, and name that. Nothing has changed.",
+               "can't read %s: it is a pipe or a device, and a file is needed here", path);
+    }
     return file;
 }
 
@@ -122,12 +159,7 @@ struct bytes map_file(const char *path)
     static uint8_t nothing[1];
     struct bytes bytes = {nothing, 0};
     struct stat status;
-    int file = open_input(path, O_NONBLOCK, &status);
-    if (!S_ISREG(status.st_mode)) {
-        about(path);
-        refuse(BAD_FILE, "Write it to a file first, and name that. Nothing has changed.",
-               "can't read %s: it is a pipe or a device, and a file is needed here", path);
-    }
+    int file = open_regular(path, &status);
     bytes.length = (size_t)status.st_size;
     if (bytes.length) {
         void *at = mmap(NULL, bytes.length, PROT_READ, MAP_PRIVATE, file, 0);
@@ -137,6 +169,26 @@ struct bytes map_file(const char *path)
     }
     close(file);
     return bytes;
+}
+
+int read_part(const char *path, uint64_t offset, struct bytes bytes, uint64_t *length)
+{
+    struct stat status;
+    int file = open_regular(path, &status);
+    size_t done = 0;
+    while (done < bytes.length) {
+        ssize_t got = pread(file, bytes.at + done, bytes.length - done, (off_t)(offset + done));
+        if (got < 0 && errno == EINTR)
+            continue;
+        if (got < 0)
+            file_fault("read", path);
+        if (got == 0)
+            break;
+        done += (size_t)got;
+    }
+    close(file);
+    *length = (uint64_t)status.st_size;
+    return done == bytes.length;
 }
 
 static void refuse_length(const char *path, const char *count, const char *what, uint64_t length,
@@ -224,14 +276,28 @@ static void make_folder(const char *path)
         return;
     }
     int above = open(text("%s/..", path), O_RDONLY | O_DIRECTORY | O_CLOEXEC);
-    if (above < 0)
+    if (above < 0 || !sync_file(above))
         file_fault("store the name of", path);
-    sync_file(above, path);
     close(above);
+}
+
+void refuse_link(const struct folder *folder, const char *name)
+{
+    struct stat status;
+    const char *path = path_in(folder->path, name);
+    if (fstatat(folder->at, name, &status, AT_SYMLINK_NOFOLLOW) != 0 || !S_ISLNK(status.st_mode))
+        return;
+    about(path);
+    refuse(TURNED_AWAY,
+           "A command would replace the link, and the file that it names would stay the older one. Put "
+           "the file itself into the folder; the folder may be a link. Nothing has changed.",
+           "%s is a symbolic link", path);
 }
 
 struct folder lock_folder(const char *path, int make)
 {
+    static const char *const replaced[] = {"card",      "card.sum", "change", "message",
+                                           "committed", "table",    "stands", "applying"};
     struct folder folder = {path, -1};
     if (make)
         make_folder(path);
@@ -242,8 +308,11 @@ struct folder lock_folder(const char *path, int make)
         if (errno != EWOULDBLOCK)
             file_fault("lock the folder", path);
         about(path);
-        refuse(TURNED_AWAY, "Wait until it has ended, and run this one again.", "another command is at work in %s", path);
+        refuse(TURNED_AWAY, "Wait until it has ended, and run this one again.",
+               "another command is at work in %s", path);
     }
+    for (size_t i = 0; i < sizeof replaced / sizeof *replaced; i++)
+        refuse_link(&folder, replaced[i]);
     return folder;
 }
 

@@ -1,6 +1,13 @@
 /*
- * The host's folder: `blocks`, `marks` (but in version 1) and `table`, and `stands`, the header of the change that is in place: of which
- * file, with how many blocks, at which counter. A change that is being put in place is in the folder too, as `applying`, until it is.
+ * The host's folder: `blocks`, `marks` (but in version 1) and `table`, and `stands`, the header of the
+ * change that is in place: of which file, with how many blocks, at which counter.
+ *
+ * A further change is put in place in steps, and a crash between two of them leaves the old state or one
+ * that the next command completes:
+ *   1. Blocks that are added are written after the last. The header of the change is kept as `adding`
+ *      meanwhile; where a command stops, the next one cuts `blocks` back to what stands.
+ *   2. The rest of the change is kept as `applying`. From here on the next command goes on with it.
+ *   3. The blocks that take the place of others, the marks, the table, and last `stands`.
  */
 #ifndef HOST_H
 #define HOST_H
@@ -12,17 +19,33 @@ struct host {
     struct folder folder;
     int begun;   /* whether there is a file: the change that stands is known then */
     int went_on; /* whether a change that was half in place was put there when the folder was opened */
+    int damaged; /* whether `applying` is there and can't be gone on with */
     struct change stands;
 };
 
-/* Opens the folder, locks it, and puts in place what was being put there when a command stopped. */
-struct host open_host(const char *path, int make);
+/* Opens the folder, locks it, and puts in place what was being put there when a command stopped. An
+ * `applying` that is damaged, or does not follow what stands, is refused, or with `mends` only noted. */
+struct host open_host(const char *path, int make, int mends);
 
-/* Ends the program where the folder holds another file than the one of an id, which a change or a message bears. */
+/* Ends the program where `applying` is damaged. */
+void refuse_damaged(const struct host *host);
+
+/* Ends the program where the folder holds another file than the one with an id, that of a change or a
+ * message. */
 void refuse_other_file(const struct host *host, const uint8_t *id, const char *path);
 
-/* Puts the first change of a file in place; puts a further one in place, which is kept as `applying` meanwhile. */
+/* Whether a change follows what stands; whether it has the numbers of the one that stands. */
+int follows(const struct host *host, const struct change *change);
+int has_its_numbers(const struct host *host, const struct change *change);
+
+/* Compares a change with the numbers of the one that stands with what is in place. Returns the name of
+ * the first file that has something else: "table", "blocks" or "marks"; null where none has. */
+const char *differs(const struct host *host, const struct change *change);
+
+/* Puts the first change of a file in place. */
 void begin_file(struct host *host, const struct change *change);
+
+/* Puts a further change in place. A damaged `applying` is moved aside first. */
 void put_in_place(struct host *host, const struct change *change);
 
 #endif

@@ -1,6 +1,7 @@
 /* legbaro: provable data possession of a car park's tick file, for owners and hosts. The manual is legbaro(1). */
 #define _GNU_SOURCE
 #include "commands.h"
+#include "progress.h"
 #include "report.h"
 
 #include <signal.h>
@@ -32,16 +33,16 @@ static const struct command commands[] = {
     {"wait", " plan at ", 0, 0, "", "how long until the plan allows a draw", run_wait},
     {"cause", " role key ", 1, 1, "REPLY", "why judge would reject a reply", run_cause},
     {"judge", " role key close ", 1, 1, "REPLY", "judge the host's reply", run_judge},
-    {"judge-pool", " role key ", 3, 17, "REPLY FOLDER..", "judge one reply for several files", run_judge_pool},
+    {"judge-pool", " role key close ", 3, 17, "REPLY FOLDER..", "judge one reply for several files", run_judge_pool},
     {"show", " ", 0, 0, "", "a card, or what stands at the host, in words", run_show},
-    {"apply", " check committed ", 0, 1, "[CHANGE]", "host: put a change in place", run_apply},
-    {"prove", " out ", 1, 1, "MESSAGE", "host: answer a message", run_prove},
-    {"pool", " out ", 2, 16, "REPLY..", "host: make one reply of several", run_pool},
+    {"apply", " check committed progress ", 0, 1, "[CHANGE]", "host: put a change in place", run_apply},
+    {"prove", " out force ", 1, 1, "MESSAGE", "host: answer a message", run_prove},
+    {"pool", " out force ", 2, 16, "REPLY..", "host: make one reply of several", run_pool},
     {"positions", " positions rows blocks ", 0, 0, "", "how many positions a file with few blocks needs", run_positions},
-    {"sheet", " block-bytes rows positions tokens blocks damaged svg ", 0, 0, "", "room, reading, work and risk of a planned file",
+    {"sheet", " block-bytes rows positions tokens blocks damaged svg force ", 0, 0, "", "room, reading, work and risk of a planned file",
      run_sheet},
-    {"parity encode", " block-bytes data parity out ", 1, 1, "BLOCKS", "parity blocks for the blocks of a file", run_parity_encode},
-    {"parity rebuild", " block-bytes data parity lost lost-parity out ", 2, 2, "BLOCKS PARITY", "lost blocks from the others",
+    {"parity encode", " block-bytes data parity out force ", 1, 1, "BLOCKS", "parity blocks for the blocks of a file", run_parity_encode},
+    {"parity rebuild", " block-bytes data parity lost lost-parity out force ", 2, 2, "BLOCKS PARITY", "lost blocks from the others",
      run_parity_rebuild},
 };
 
@@ -54,7 +55,7 @@ static int help(void)
         printf("  %-15s %-15s %s\n", commands[i].name, commands[i].words, commands[i].purpose);
     puts("\nEvery command takes -C FOLDER, the owner's or the host's folder, and --json. The manual is legbaro(1).\n"
          "Exit status: 0 done or accepted, 1 rejected, 2 turned away, 3 wrong use, 4 a file can't be read or written.");
-    return DONE;
+    return ended(DONE);
 }
 
 /* A file that another program cuts while it is mapped. */
@@ -86,7 +87,7 @@ static int help_with(const struct command *command)
     for (const char *at = command->options; at[1]; at = strchr(at + 1, ' '))
         printf(" [--%.*s]", (int)strcspn(at + 1, " "), at + 1);
     printf(" %s\n%s. The manual is legbaro(1).\n", command->words, command->purpose);
-    return DONE;
+    return ended(DONE);
 }
 
 static int asks_for(const char *option, int count, char **given)
@@ -111,6 +112,8 @@ static int run(int count, char **given, const char *folder)
         struct options options = read_options(&commands[i], count - words, given + words);
         if (folder && !strcmp(options.folder, "."))
             options.folder = folder;
+        if (options.progress)
+            always_show_progress();
         return commands[i].run(&options);
     }
     int second = count > 1 && given[1][0] != '-';
@@ -124,6 +127,7 @@ int main(int count, char **given)
     const char *folder = NULL;
     struct sigaction action = {.sa_handler = cut};
     sigaction(SIGBUS, &action, NULL);
+    signal(SIGXFSZ, SIG_IGN); /* a write past the limit of a file's size fails with EFBIG then */
     given++;
     count--;
     if (count > 1 && !strcmp(given[0], "-C")) {

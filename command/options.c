@@ -26,6 +26,7 @@ static const struct option {
     {"svg", TEXT, offsetof(struct options, svg)},
     {"lost", TEXT, offsetof(struct options, lost)},
     {"lost-parity", TEXT, offsetof(struct options, lost_parity)},
+    {"committed", TEXT, offsetof(struct options, committed)},
     {"role", ROLE, offsetof(struct options, role)},
     {"mark", MARK, offsetof(struct options, mark)},
     {"version", NUMBER, offsetof(struct options, version)},
@@ -40,7 +41,7 @@ static const struct option {
     {"json", FLAG, offsetof(struct options, json)},
     {"progress", FLAG, offsetof(struct options, progress)},
     {"check", FLAG, offsetof(struct options, check)},
-    {"committed", FLAG, offsetof(struct options, committed)},
+    {"force", FLAG, offsetof(struct options, force)},
     {"again", FLAG, offsetof(struct options, again)},
     {"close", FLAG, offsetof(struct options, close)},
 };

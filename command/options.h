@@ -9,9 +9,10 @@
 
 /* An option that was not told is null, UNTOLD or 0, but for role, version and folder, which have a default. */
 struct options {
-    const char *folder, *key, *host, *old, *plan, *at, *id, *out, *svg, *lost, *lost_parity;
+    const char *folder, *key, *host, *old, *plan, *at, *id, *out, *svg, *lost, *lost_parity,
+        *committed;
     uint64_t role, version, mark, block_bytes, rows, positions, tokens, blocks, damaged, data, parity;
-    uint64_t json, progress, check, committed, again, close;
+    uint64_t json, progress, check, force, again, close;
     int asked; /* the command begins with 'ask' */
     char **words;
     int count;

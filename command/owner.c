@@ -4,6 +4,7 @@
 #include "change.h"
 #include "checksum.h"
 #include "codes.h"
+#include "receipt.h"
 #include "report.h"
 
 #include "legbaro.h"
@@ -124,6 +125,7 @@ int is_unsettled(const struct owner *owner)
 {
     const struct folder *folder = &owner->folder;
     return is_in(folder, "card.new") || is_in(folder, "change.new") || is_in(folder, "message.new") ||
+           is_in(folder, "committed.new") ||
            is_dropped_change(folder, owner->before) ||
            (is_in(folder, "message") && !is_open_message(folder, "message", owner->before));
 }
@@ -143,6 +145,7 @@ void settle(const struct owner *owner)
         settle_prepared(owner, "message", is_open_message(folder, "message.new", card));
     if (is_in(folder, "message") && !is_open_message(folder, "message", card))
         let_go(owner, "message");
+    settle_receipt(folder, card);
 }
 
 void prepare_card(const struct owner *owner)

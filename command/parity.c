@@ -1,7 +1,7 @@
 /* Parity blocks beside a file: parity encode and parity rebuild. The blocks of a file lie in groups, one behind the other, of which the
  * last may be smaller; each group has its own parity blocks. Blocks and parity blocks are numbered from 1 through the whole file. */
 #include "commands.h"
-#include "files.h"
+#include "output.h"
 #include "report.h"
 
 #include "legbaro.h"
@@ -56,6 +56,7 @@ int run_parity_encode(const struct options *o)
 {
     struct groups g = read_groups(o);
     needs_text(o->out, "--out, the file for the parity blocks,");
+    struct output out = check_output(o, o->out, NULL, NULL);
     struct bytes all = shared_room(g.count * g.parity * g.bytes);
     for (uint64_t i = 0; i < g.count; i++) {
         struct bytes data = data_at(&g, i), parity = {all.at + i * g.parity * g.bytes, g.parity * g.bytes};
@@ -64,7 +65,7 @@ int run_parity_encode(const struct options *o)
             refuse_group(&g, i, result);
     }
     const struct piece piece = {all.at, all.length};
-    store_at(o->out, &piece, 1);
+    write_output(&out, &piece, 1);
     field("blocks", g.blocks);
     field("parity", g.count * g.parity);
     field_text("file", o->out);
@@ -125,13 +126,14 @@ int run_parity_rebuild(const struct options *o)
     uint64_t mended = 0;
     read_lost(&g, &lost, o->lost, 0);
     read_lost(&g, &lost, o->lost_parity, 1);
+    struct output out = check_output(o, o->out, NULL, NULL);
     for (uint64_t i = 0; i < g.count; i++) {
         struct bytes data = lost.counts[i] ? rebuilt(&g, i, parity, &lost) : data_at(&g, i);
         pieces[i].at = data.at;
         pieces[i].length = data.length;
         mended += lost.counts[i] != 0;
     }
-    store_at(o->out, pieces, (int)g.count);
+    write_output(&out, pieces, (int)g.count);
     field("groups", mended);
     field_text("file", o->out);
     say("%s has all %" PRIu64 " blocks; %" PRIu64 " of %" PRIu64 " groups were rebuilt", o->out, g.blocks, mended, g.count);

@@ -1,12 +1,13 @@
 /* See picture.h. The chance has a logarithmic scale from 1 to one in a million; a curve that goes below leaves its plot. */
 #define _GNU_SOURCE
 #include "picture.h"
-#include "files.h"
+#include "output.h"
 #include "report.h"
 
 #include <math.h>
 #include <stdio.h>
 #include <stdlib.h>
+#include <string.h>
 
 /* Two plots above, and one below that is as wide as both. */
 enum { WIDTH = 1460, HEIGHT = 1020, LEFT = 150, RIGHT = 880, PLOT_WIDTH = 400 };
@@ -336,8 +337,17 @@ static void draw(FILE *f, const struct numbers *of)
     fputs("</svg>\n", f);
 }
 
-void write_picture(const char *path, const struct numbers *of)
+/* Whether bytes are a picture that this program made: it begins as this one does. */
+static int is_picture(struct bytes bytes)
 {
+    static const char first[] = "<svg xmlns=\"http://www.w3.org/2000/svg\" width=\"1460\" ";
+    return bytes.length >= sizeof first - 1 && !memcmp(bytes.at, first, sizeof first - 1);
+}
+
+void write_picture(const struct options *o, const struct numbers *of)
+{
+    const char *path = o->svg;
+    struct output out = check_output(o, path, NULL, is_picture);
     char *bytes = NULL;
     size_t length = 0;
     FILE *f = open_memstream(&bytes, &length);
@@ -347,6 +357,6 @@ void write_picture(const char *path, const struct numbers *of)
     if (fclose(f) != 0)
         file_fault("draw", path);
     const struct piece piece = {bytes, length};
-    store_at(path, &piece, 1);
+    write_output(&out, &piece, 1);
     free(bytes);
 }

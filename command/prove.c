@@ -1,6 +1,7 @@
 /* The command prove, the host's. */
 #include "commands.h"
 #include "host.h"
+#include "output.h"
 #include "report.h"
 #include "tell.h"
 
@@ -18,34 +19,52 @@ struct held {
 
 static struct held map_held(const char *folder, struct bytes message)
 {
-    static const char *const lost = "Where a change was sent, apply it; else the host has lost what it was to keep.";
+    static const char *const lost =
+        "Where a change was sent, apply it; else the host has lost what it was to keep.";
     uint64_t n = number_at(message.at + BLOCKS, 4), bytes = number_at(message.at + BLOCK_BYTES, 2);
-    struct held held = {map_whole(path_in(folder, "blocks"), n * bytes, "by the message the file", lost), room(0),
+    const char *by_message = "by the message the file";
+    struct held held = {map_whole(path_in(folder, "blocks"), n * bytes, by_message, lost), room(0),
                         map_file(path_in(folder, "table"))};
     if (message.at[VERSION] != LEGBARO_WITHOUT_MARKS)
-        held.marks = map_whole(path_in(folder, "marks"), n, "by the message the file", lost);
+        held.marks = map_whole(path_in(folder, "marks"), n, by_message, lost);
     return held;
+}
+
+/* Whether bytes are a reply: its own length is its first field. */
+static int is_reply(struct bytes bytes)
+{
+    return bytes.length == LEGBARO_REPLY_BYTES &&
+           number_at(bytes.at, 2) == LEGBARO_REPLY_BYTES - 2 && bytes.at[VERSION] >= 1 &&
+           bytes.at[VERSION] <= LEGBARO_TWO_STEPS;
+}
+
+/* The file that a refusal of the library is about. */
+static const char *subject(const struct options *o, uint64_t code)
+{
+    return code == LEGBARO_BAD_MARK       ? path_in(o->folder, "marks")
+           : code == LEGBARO_WRONG_LENGTH ? path_in(o->folder, "table")
+                                          : input_words(o->words[0]);
 }
 
 int run_prove(const struct options *o)
 {
-    struct bytes message = map_whole(o->words[0], LEGBARO_MESSAGE_BYTES, "a message", "Ask the owner to send it again.");
+    struct bytes message = small_whole(o->words[0], LEGBARO_MESSAGE_BYTES, "a message",
+                                       "Ask the owner to send it again.");
     struct bytes reply = room(LEGBARO_REPLY_BYTES), totals = room(LEGBARO_TOTALS_BYTES);
     const struct piece piece = {reply.at, reply.length};
-    struct host host = open_host(o->folder, 0);
-    const char *out = o->out ? o->out : path_in(o->folder, "reply");
+    struct output out = check_output(o, o->out, "reply", is_reply);
+    struct host host = open_host(o->folder, 0, 0);
     refuse_other_file(&host, message.at + ID, o->words[0]);
     struct held held = map_held(o->folder, message);
-    uint64_t result = legbaro_prove(LENT(message), LENT(held.blocks), LENT(held.marks), LENT(held.table), LENT(reply), LENT(totals));
+    uint64_t result = legbaro_prove(LENT(message), LENT(held.blocks), LENT(held.marks),
+                                    LENT(held.table), LENT(reply), LENT(totals));
     if (result != LEGBARO_OK)
-        turn_away(result, LEGBARO_CODE(result) == LEGBARO_BAD_MARK       ? path_in(o->folder, "marks")
-                          : LEGBARO_CODE(result) == LEGBARO_WRONG_LENGTH ? path_in(o->folder, "table")
-                                                                         : o->words[0]);
-    store_at(out, &piece, 1);
+        turn_away(result, subject(o, LEGBARO_CODE(result)));
+    write_output(&out, &piece, 1);
     field("token", number_at(message.at + TOKEN, 4));
-    field_text("file", out);
+    field_text("file", out.path);
     say("token %" PRIu64 " is answered", number_at(message.at + TOKEN, 4));
     tell_totals(totals);
-    say("next: send %s to the owner", out);
+    say("next: send %s to the owner", out.path);
     return ended(DONE);
 }

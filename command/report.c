@@ -175,6 +175,8 @@ static const char *fault_next(int fault)
     case ENOSPC:
     case EDQUOT:
         return "The disk is full: make room, and run the command again. Nothing has changed.";
+    case EFBIG:
+        return "The file would be larger than this account may write (ulimit -f) or than the disk takes. Nothing has changed.";
     default:
         return "Nothing has changed.";
     }

@@ -5,9 +5,9 @@
 #include "commands.h"
 #include "ids.h"
 #include "owner.h"
+#include "progress.h"
 #include "report.h"
 #include "tell.h"
-#include "work.h"
 
 #include "legbaro.h"
 
@@ -128,7 +128,7 @@ int run_set_up(const struct options *o)
     s.table = shared_room((o->tokens <= LEGBARO_MOST_TOKENS ? o->tokens : 0) * LEGBARO_RECORD_BYTES);
     s.totals = shared_room(LEGBARO_TOTALS_BYTES);
     struct watch watch = {(int)o->progress, s.table, 1, 0};
-    uint64_t result = work(call, &s, &watch);
+    uint64_t result = with_progress(call, &s, &watch);
     if (LEGBARO_CODE(result) == LEGBARO_OUT_OF_LIMITS)
         refuse_limits(o, s.count);
     if (result != LEGBARO_OK)

@@ -116,7 +116,7 @@ int run_sheet(const struct options *o)
     if (code != LEGBARO_OK)
         turn_away(code, text("--damaged %" PRIu64 " of --rows %" PRIu64, of.damaged, of.rows));
     if (o->svg) {
-        write_picture(o->svg, &of);
+        write_picture(o, &of);
         field_text("file", o->svg);
     }
     print_numbers(&of);

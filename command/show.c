@@ -169,8 +169,10 @@ static int show_nothing(const struct options *o)
                "%s has a change and no card", o->folder);
     if (is_there(o, "key"))
         refuse(BAD_FILE, "Set one up: 'legbaro set-up'.", "%s has a key, and no file is set up in it", o->folder);
-    if (access(o->folder, F_OK) != 0)
+    int folder = open(o->folder, O_RDONLY | O_DIRECTORY | O_CLOEXEC);
+    if (folder < 0)
         file_fault("open the folder", o->folder);
+    close(folder);
     refuse(BAD_FILE, "An owner begins with 'legbaro key' and 'legbaro set-up', a host with 'legbaro apply CHANGE'; -C names the folder.",
            "%s holds no file of an owner or a host", o->folder);
     return BAD_FILE;

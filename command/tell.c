@@ -64,7 +64,9 @@ void tell_audit(struct bytes card)
     uint64_t blocks = in_card(card, LEGBARO_CARD_BLOCKS, 4);
     field("least-blocks", sheet.least);
     field("most-blocks", sheet.most);
-    if (sheet.least == sheet.most)
+    if (sheet.least == blocks)
+        say("an audit looks at every block");
+    else if (sheet.least == sheet.most)
         say("an audit looks at %" PRIu64 " of %" PRIu64 " block%s", sheet.least, blocks, blocks == 1 ? "" : "s");
     else
         say("an audit looks at %" PRIu64 " to %" PRIu64 " of %" PRIu64 " block%s", sheet.least, sheet.most, blocks, blocks == 1 ? "" : "s");

@@ -35,7 +35,13 @@ enum outcome { GO_ON, FAIL, HALF };
     if (!real_##name)                                                                                                                      \
     *(void **)&real_##name = dlsym(RTLD_NEXT, #name)
 
-static int calls, dirty[MOST], dirty_count;
+static int calls, dirty_count;
+
+/* Files with bytes that are not synced, and how long each is without them. */
+static struct {
+    int file;
+    off_t length;
+} dirty[MOST];
 static struct {
     int folder;
     char from[256], to[256], kept[256];
@@ -65,13 +71,17 @@ static int same_file(int a, int b)
     return fstat(a, &of_a) == 0 && fstat(b, &of_b) == 0 && of_a.st_ino == of_b.st_ino && of_a.st_dev == of_b.st_dev;
 }
 
-static void remember_written(int file)
+/* A file that is written from its beginning loses all; of another the bytes after its end are lost. */
+static void remember_written(int file, int from_beginning)
 {
+    struct stat status;
     for (int i = 0; i < dirty_count; i++)
-        if (same_file(dirty[i], file))
+        if (same_file(dirty[i].file, file))
             return;
-    if (dirty_count < MOST)
-        dirty[dirty_count++] = dup(file);
+    if (dirty_count == MOST || fstat(file, &status) != 0)
+        return;
+    dirty[dirty_count].length = from_beginning ? 0 : status.st_size;
+    dirty[dirty_count++].file = dup(file);
 }
 
 /* The file that a rename replaces is kept under another name until its folder is synced. */
@@ -92,8 +102,8 @@ static void forget(int file)
 {
     REAL(int, unlinkat, int, const char *, int);
     for (int i = 0; i < dirty_count; i++)
-        if (same_file(dirty[i], file)) {
-            close(dirty[i]);
+        if (same_file(dirty[i].file, file)) {
+            close(dirty[i].file);
             dirty[i--] = dirty[--dirty_count];
         }
     while (renamed_count && same_file(renamed[renamed_count - 1].folder, file)) {
@@ -108,7 +118,7 @@ static void lose(void)
     REAL(int, ftruncate, int, off_t);
     REAL(int, renameat, int, const char *, int, const char *);
     for (int i = 0; i < dirty_count; i++)
-        real_ftruncate(dirty[i], 0);
+        real_ftruncate(dirty[i].file, dirty[i].length);
     while (renamed_count--) {
         int folder = renamed[renamed_count].folder;
         real_renameat(folder, renamed[renamed_count].to, folder, renamed[renamed_count].from);
@@ -148,7 +158,7 @@ ssize_t write(int file, const void *bytes, size_t length)
     REAL(ssize_t, write, int, const void *, size_t);
     enum outcome outcome = file > STDERR_FILENO ? next_call(1) : GO_ON;
     if (file > STDERR_FILENO)
-        remember_written(file);
+        remember_written(file, 1);
     if (outcome == HALF)
         return halved(real_write(file, bytes, (length + 1) / 2));
     return outcome == FAIL ? -1 : real_write(file, bytes, length);
@@ -158,6 +168,7 @@ ssize_t pwrite(int file, const void *bytes, size_t length, off_t offset)
 {
     REAL(ssize_t, pwrite, int, const void *, size_t, off_t);
     enum outcome outcome = next_call(1);
+    remember_written(file, 0);
     if (outcome == HALF)
         return halved(real_pwrite(file, bytes, (length + 1) / 2, offset));
     return outcome == FAIL ? -1 : real_pwrite(file, bytes, length, offset);
