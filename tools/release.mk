@@ -39,16 +39,25 @@ $(OUT)/tests-shared: $(wildcard tests/cases/*.[ch]) $(SHARED) $(SO_FILE) $(HEADE
 	@mkdir -p $(OUT)
 	$(COMPILE) -Itests -pthread $(filter %.c,$^) -o $@ -L$(SO) -Wl,-rpath,$(abspath $(SO)) -llegbaro -lcrypto -lisal
 
-packages: lib shared command
-	@tools/needs debhelper lintian
-	tools/packages
+LINTIAN ?= lintian --fail-on=error,warning --allow-root
+
+packages: lib
+	@tools/needs cc zlib debhelper lintian
+	@tools/packages
+	@$(LINTIAN) target/packages/*.changes
 
 try-packages: packages
 	@tools/needs debootstrap
 	tools/try-packages
 
-dist: lib command
-	tools/dist
+dist: lib $(OUT)/legbaro-static
+	@tools/dist $(OUT)/legbaro-static
+
+# Its bytes are the same whatever CFLAGS and LDFLAGS say.
+$(OUT)/legbaro-static: $(wildcard command/*.c command/*.h) $(LIB)/liblegbaro.a $(HEADERS)
+	@tools/needs cc zlib
+	@mkdir -p $(OUT)
+	$(CC) -std=c99 -O2 -I$(LIB) $(filter %.c,$^) -static -s -o $@ $(LINK) -lm -l:libz.a
 
 reproducible: packages dist
 	tools/reproducible
