@@ -62,6 +62,21 @@ $(OUT)/legbaro-static: $(wildcard command/*.c command/*.h) $(LIB)/liblegbaro.a $
 reproducible: packages dist
 	tools/reproducible
 
-fuzz: lib
-	@tools/needs libfuzzer libcrypto isal zlib
-	tools/fuzz $(FUZZ_SECONDS)
+# The targets of fuzzing, by AFL++'s compiler with sanitizers: tests/fuzz says what each does.
+FUZZ := target/fuzz
+FUZZ_SECONDS ?= 60
+FUZZED = AFL_QUIET=1 AFL_USE_ASAN=1 AFL_USE_UBSAN=1 afl-clang-fast -std=c99 -Wall -Wextra -O1 -g -fno-sanitize-recover=undefined -I$(LIB)
+
+fuzz: $(FUZZ)/command $(FUZZ)/library $(OUT)/legbaro
+	@tools/fuzz $(FUZZ) $(OUT)/legbaro $(FUZZ_SECONDS)
+
+$(FUZZ)/command: tests/fuzz/command.c $(wildcard command/*.[ch]) $(LIB)/liblegbaro.a $(HEADERS)
+	@tools/needs cc zlib afl++
+	@mkdir -p $(FUZZ)
+	$(FUZZED) -c -Dmain=legbaro_main -o $(FUZZ)/main.o command/main.c
+	$(FUZZED) -Icommand $(filter-out command/main.c,$(filter %.c,$^)) $(FUZZ)/main.o -o $@ $(LINK) -lm -l:libz.a
+
+$(FUZZ)/library: tests/fuzz/library.c tests/support/calls.c tests/support/buffers.c $(wildcard tests/reference/*.[ch]) $(LIB)/liblegbaro.a $(HEADERS)
+	@tools/needs cc libcrypto afl++
+	@mkdir -p $(FUZZ)
+	$(FUZZED) -fsanitize=fuzzer -Itests $(filter %.c,$^) -o $@ $(LINK) -lcrypto
