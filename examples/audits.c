@@ -19,10 +19,10 @@ uint64_t host_proves(void)
                  table = read_file("host/table");
     struct bytes marks = host_marks(), reply = room(LEGBARO_REPLY_BYTES),
                  totals = room(LEGBARO_TOTALS_BYTES);
-    uint64_t result = legbaro_prove(LENT(message), LENT(blocks), LENT(marks), LENT(table),
-                                    LENT(reply), LENT(totals));
-    write_file("host/reply", LENT(reply));
-    write_file("host/totals", LENT(totals));
+    uint64_t result =
+        legbaro_prove(ARG(message), ARG(blocks), ARG(marks), ARG(table), ARG(reply), ARG(totals));
+    write_file("host/reply", ARG(reply));
+    write_file("host/totals", ARG(totals));
     free(message.at);
     free(blocks.at);
     free(marks.at);
@@ -39,11 +39,11 @@ uint64_t owner_draws(uint64_t role, const struct moment *now)
     struct bytes master = read_file("owner/master"), card = read_file("owner/card"),
                  plan = read_file("owner/plan");
     struct bytes message = room(LEGBARO_MESSAGE_BYTES);
-    uint64_t result = legbaro_draw(role, LENT(master), LENT(card), LENT(message), LENT(plan),
-                                   now->year, now->month, now->day, now->minute);
+    uint64_t result = legbaro_draw(role, ARG(master), ARG(card), ARG(message), ARG(plan), now->year,
+                                   now->month, now->day, now->minute);
     if (result == LEGBARO_OK) {
         store_card(card);
-        write_file("host/message", LENT(message));
+        write_file("host/message", ARG(message));
     }
     free(master.at);
     free(card.at);
@@ -55,7 +55,7 @@ uint64_t owner_draws(uint64_t role, const struct moment *now)
 uint64_t owner_waits(const struct moment *now)
 {
     struct bytes plan = read_file("owner/plan");
-    uint64_t result = legbaro_wait(LENT(plan), now->year, now->month, now->day, now->minute);
+    uint64_t result = legbaro_wait(ARG(plan), now->year, now->month, now->day, now->minute);
     free(plan.at);
     return result;
 }
@@ -64,7 +64,7 @@ uint64_t owner_asks_cause(uint64_t role)
 {
     struct bytes master = read_file("owner/master"), card = read_file("owner/card"),
                  reply = read_file("host/reply");
-    uint64_t result = legbaro_cause(role, LENT(master), LENT(card), LENT(reply));
+    uint64_t result = legbaro_cause(role, ARG(master), ARG(card), ARG(reply));
     free(master.at);
     free(card.at);
     free(reply.at);
@@ -75,7 +75,7 @@ uint64_t owner_judges(uint64_t role)
 {
     struct bytes master = read_file("owner/master"), card = read_file("owner/card"),
                  reply = read_file("host/reply");
-    uint64_t result = legbaro_judge(role, LENT(master), LENT(card), LENT(reply));
+    uint64_t result = legbaro_judge(role, ARG(master), ARG(card), ARG(reply));
     store_card(card);
     free(master.at);
     free(card.at);
@@ -106,8 +106,8 @@ uint64_t host_pools(const char *const *folders, size_t count)
 {
     struct bytes replies = gathered(folders, count, "host/reply"),
                  pooled = room(LEGBARO_POOLED_BYTES(count));
-    uint64_t result = legbaro_pool(LENT(replies), LENT(pooled));
-    write_file("pooled", LENT(pooled));
+    uint64_t result = legbaro_pool(ARG(replies), ARG(pooled));
+    write_file("pooled", ARG(pooled));
     free(replies.at);
     free(pooled.at);
     return result;
@@ -131,7 +131,7 @@ uint64_t owner_judges_pool(uint64_t role, const char *const *folders, size_t cou
     struct bytes master = gathered(folders, 1, "owner/master"),
                  cards = gathered(folders, count, "owner/card");
     struct bytes reply = read_file("pooled");
-    uint64_t result = legbaro_judge_pool(role, LENT(master), LENT(cards), LENT(reply));
+    uint64_t result = legbaro_judge_pool(role, ARG(master), ARG(cards), ARG(reply));
     store_cards(folders, count, cards.at);
     free(master.at);
     free(cards.at);

@@ -114,14 +114,14 @@ void resize_file(const char *name, size_t length)
 void copy_file(const char *from, const char *to)
 {
     struct bytes b = read_file(from);
-    write_file(to, LENT(b));
+    write_file(to, ARG(b));
     free(b.at);
 }
 
 void wipe(const char *name)
 {
     struct bytes zeros = room(size_of(name));
-    write_file(name, LENT(zeros));
+    write_file(name, ARG(zeros));
     free(zeros.at);
     if (remove(name) != 0)
         stop("remove", name);

@@ -11,7 +11,7 @@ struct bytes {
 };
 
 /* A buffer as the library's calls take it. */
-#define LENT(b) (b).at, (b).length
+#define ARG(b) (b).at, (b).length
 
 /* Says what can't be done with which file, and ends the program. */
 void stop(const char *what, const char *name);

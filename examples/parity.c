@@ -29,7 +29,7 @@ static struct bytes encoded(struct bytes data)
 {
     struct bytes parity = room((size_t)PARITY * BAYS);
     tell("the owner encodes the day's 24 blocks into 4:",
-         legbaro_parity_encode(BAYS, DATA, PARITY, LENT(data), LENT(parity)), LEGBARO_OK);
+         legbaro_parity_encode(BAYS, DATA, PARITY, ARG(data), ARG(parity)), LEGBARO_OK);
     return parity;
 }
 
@@ -82,14 +82,14 @@ static void rebuild(const uint8_t *lost, size_t count)
     memcpy(blocks.at + data.length, parity.at, parity.length);
     free(parity.at);
     tell("the owner rebuilds, one lost block more is named:",
-         legbaro_parity_rebuild(BAYS, DATA, PARITY, LENT(blocks), lost, count + 1, LENT(data)),
+         legbaro_parity_rebuild(BAYS, DATA, PARITY, ARG(blocks), lost, count + 1, ARG(data)),
          LEGBARO_TOO_MANY_LOST);
     tell("the owner rebuilds, the lost blocks are named:",
-         legbaro_parity_rebuild(BAYS, DATA, PARITY, LENT(blocks), lost, count, LENT(data)),
+         legbaro_parity_rebuild(BAYS, DATA, PARITY, ARG(blocks), lost, count, ARG(data)),
          LEGBARO_OK);
     parity = encoded(data);
-    write_file("host/blocks", LENT(data));
-    write_file(PARITY_FOLDER "/host/blocks", LENT(parity));
+    write_file("host/blocks", ARG(data));
+    write_file(PARITY_FOLDER "/host/blocks", ARG(parity));
     free(blocks.at);
     free(data.at);
     free(parity.at);

@@ -55,9 +55,9 @@ static void host_replaces(uint64_t number, struct bytes block, uint8_t mark)
 static void host_adds(struct bytes blocks, size_t block_bytes)
 {
     struct bytes live = room(blocks.length / block_bytes);
-    add_to_file("host/blocks", LENT(blocks));
+    add_to_file("host/blocks", ARG(blocks));
     if (is_there("host/marks"))
-        add_to_file("host/marks", LENT(live));
+        add_to_file("host/marks", ARG(live));
     free(live.at);
 }
 
@@ -65,7 +65,7 @@ static void host_adds(struct bytes blocks, size_t block_bytes)
 
 void store_card(struct bytes card)
 {
-    store_file("owner", "card", LENT(card));
+    store_file("owner", "card", ARG(card));
 }
 
 /* Draws are allowed from 21:00 to 6:00 in the morning, and on Sundays from 8:00 to 22:00. */
@@ -79,7 +79,7 @@ void owner_begins(struct bytes blocks)
 {
     write_file("owner/master", example_master, LEGBARO_MASTER_BYTES);
     write_file("owner/plan", closing_hours, sizeof closing_hours);
-    write_file("owner/blocks", LENT(blocks));
+    write_file("owner/blocks", ARG(blocks));
 }
 
 uint64_t owner_sets_up(const struct plan *plan)
@@ -91,16 +91,16 @@ uint64_t owner_sets_up(const struct plan *plan)
                  totals = room(LEGBARO_TOTALS_BYTES);
     struct bytes live = room(blocks.length / plan->block_bytes);
     uint64_t result =
-        legbaro_set_up(LENT(master), (const uint8_t *)plan->id, LEGBARO_ID_BYTES, plan->version,
+        legbaro_set_up(ARG(master), (const uint8_t *)plan->id, LEGBARO_ID_BYTES, plan->version,
                        plan->block_bytes, plan->rows, plan->positions, plan->tokens, live.length,
-                       LENT(blocks), LENT(card), LENT(table), LENT(totals));
+                       ARG(blocks), ARG(card), ARG(table), ARG(totals));
     if (result == LEGBARO_OK) {
         store_card(card);
-        write_file("owner/totals", LENT(totals));
-        write_file("host/table", LENT(table));
-        write_file("host/blocks", LENT(blocks));
+        write_file("owner/totals", ARG(totals));
+        write_file("host/table", ARG(table));
+        write_file("host/blocks", ARG(blocks));
         if (plan->version != LEGBARO_WITHOUT_MARKS)
-            write_file("host/marks", LENT(live));
+            write_file("host/marks", ARG(live));
     }
     free(live.at);
     free(master.at);
@@ -119,7 +119,7 @@ void owner_fetches(uint64_t token)
     struct bytes records = room(size_of("host/table") - offset);
     read_part("host/table", offset, records);
     if (token == 1)
-        write_file("owner/table", LENT(records));
+        write_file("owner/table", ARG(records));
     else
         write_part("owner/table", offset, records);
     free(records.at);
@@ -145,7 +145,7 @@ static struct hand owner_takes(void)
 static void owner_keeps(const struct hand *hand)
 {
     store_card(hand->card);
-    write_file("owner/totals", LENT(hand->totals));
+    write_file("owner/totals", ARG(hand->totals));
 }
 
 static void free_hand(struct hand *hand)
@@ -161,7 +161,7 @@ static void owner_puts_back(struct hand *hand, uint64_t result)
 {
     if (result == LEGBARO_OK) {
         owner_keeps(hand);
-        write_file("host/table", LENT(hand->table));
+        write_file("host/table", ARG(hand->table));
         wipe("owner/table");
     }
     free_hand(hand);
@@ -174,8 +174,8 @@ typedef uint64_t adding(uint64_t, const uint8_t *, size_t, uint8_t *, size_t, ui
 static uint64_t owner_adds(adding *call, uint64_t role, struct bytes blocks)
 {
     struct hand hand = owner_takes();
-    uint64_t result = call(role, LENT(hand.master), LENT(hand.card), LENT(hand.table), LENT(blocks),
-                           LENT(hand.totals));
+    uint64_t result = call(role, ARG(hand.master), ARG(hand.card), ARG(hand.table), ARG(blocks),
+                           ARG(hand.totals));
     if (result == LEGBARO_OK)
         host_adds(blocks, in_card(LEGBARO_CARD_BLOCK_BYTES, 2));
     owner_puts_back(&hand, result);
@@ -203,8 +203,8 @@ uint64_t owner_updates(uint64_t role, uint64_t number, struct bytes block)
     struct hand hand = owner_takes();
     struct bytes old = room(block.length), mark = room_for_mark();
     host_sends(number, old, mark);
-    uint64_t result = legbaro_update(role, LENT(hand.master), LENT(hand.card), LENT(hand.table),
-                                     number, LENT(old), LENT(mark), LENT(block), LENT(hand.totals));
+    uint64_t result = legbaro_update(role, ARG(hand.master), ARG(hand.card), ARG(hand.table),
+                                     number, ARG(old), ARG(mark), ARG(block), ARG(hand.totals));
     if (result == LEGBARO_OK)
         host_replaces(number, block, LEGBARO_LIVE);
     owner_puts_back(&hand, result);
@@ -219,8 +219,8 @@ uint64_t owner_deletes(uint64_t role, uint64_t number)
     size_t block_bytes = in_card(LEGBARO_CARD_BLOCK_BYTES, 2);
     struct bytes old = room(block_bytes), zeros = room(block_bytes), mark = room_for_mark();
     host_sends(number, old, mark);
-    uint64_t result = legbaro_delete(role, LENT(hand.master), LENT(hand.card), LENT(hand.table),
-                                     number, LENT(old), LENT(mark), LENT(hand.totals));
+    uint64_t result = legbaro_delete(role, ARG(hand.master), ARG(hand.card), ARG(hand.table),
+                                     number, ARG(old), ARG(mark), ARG(hand.totals));
     if (result == LEGBARO_OK)
         host_replaces(number, zeros, LEGBARO_DELETED);
     owner_puts_back(&hand, result);
@@ -268,8 +268,8 @@ uint64_t owner_corrects(uint64_t role, const struct correction *corrections, siz
     struct bytes items = room(count * item_bytes);
     for (size_t i = 0; i < count; i++)
         write_item(items.at + i * item_bytes, &corrections[i], version, block_bytes);
-    uint64_t result = legbaro_batch(role, LENT(hand.master), LENT(hand.card), LENT(hand.table),
-                                    LENT(items), LENT(hand.totals));
+    uint64_t result = legbaro_batch(role, ARG(hand.master), ARG(hand.card), ARG(hand.table),
+                                    ARG(items), ARG(hand.totals));
     if (result == LEGBARO_OK)
         host_corrects(corrections, count, block_bytes);
     owner_puts_back(&hand, result);
@@ -285,12 +285,12 @@ uint64_t owner_asks_append(uint64_t role, struct bytes block)
 {
     struct hand hand = owner_takes();
     struct bytes second = room(hand.table.length);
-    uint64_t result = legbaro_ask_append(role, LENT(hand.master), LENT(hand.card), LENT(hand.table),
-                                         LENT(second), LENT(block), LENT(hand.totals));
+    uint64_t result = legbaro_ask_append(role, ARG(hand.master), ARG(hand.card), ARG(hand.table),
+                                         ARG(second), ARG(block), ARG(hand.totals));
     if (result == LEGBARO_OK) {
         owner_keeps(&hand);
-        write_file("owner/asked-table", LENT(second));
-        write_file("owner/asked-block", LENT(block));
+        write_file("owner/asked-table", ARG(second));
+        write_file("owner/asked-block", ARG(block));
         wipe("owner/table");
     }
     free_hand(&hand);
@@ -326,7 +326,7 @@ static void host_takes_asked(void)
 uint64_t owner_commits(uint64_t role)
 {
     struct bytes card = read_file("owner/card");
-    uint64_t result = legbaro_commit(role, LENT(card));
+    uint64_t result = legbaro_commit(role, ARG(card));
     if (result == LEGBARO_OK) {
         store_card(card);
         host_takes_asked();
@@ -339,7 +339,7 @@ uint64_t owner_commits(uint64_t role)
 uint64_t owner_drops(uint64_t role)
 {
     struct bytes card = read_file("owner/card");
-    uint64_t result = legbaro_drop(role, LENT(card));
+    uint64_t result = legbaro_drop(role, ARG(card));
     if (result == LEGBARO_OK) {
         store_card(card);
         forget_asked();

@@ -48,7 +48,7 @@ packages: lib
 
 try-packages: packages
 	@tools/needs debootstrap
-	tools/try-packages
+	@tools/try-packages
 
 dist: lib $(OUT)/legbaro-static
 	@tools/dist $(OUT)/legbaro-static
@@ -59,8 +59,8 @@ $(OUT)/legbaro-static: $(wildcard command/*.c command/*.h) $(LIB)/liblegbaro.a $
 	@mkdir -p $(OUT)
 	$(CC) -std=c99 -O2 -I$(LIB) $(filter %.c,$^) -static -s -o $@ $(LINK) -lm -l:libz.a
 
-reproducible: packages dist
-	tools/reproducible
+reproducible: lib shared command packages dist
+	@tools/reproducible
 
 # The targets of fuzzing, by AFL++'s compiler with sanitizers: tests/fuzz says what each does.
 FUZZ := target/fuzz

@@ -54,9 +54,10 @@ void test_indistinguishable(void);
  * accepts. */
 void test_causes(void);
 
-/* Pooled replies: of every number of files, cut and broken in every way, what the xor shows and
- * what not, and lists on several files. */
+/* Pooled replies: of every number of files, cut and broken in every way, and what the xor shows and
+ * what not; and random lists of calls on several files. */
 void test_pools(void);
+void test_pool_lists(void);
 
 /* How many positions to draw of planned rows. */
 void test_positions(void);

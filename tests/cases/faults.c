@@ -8,11 +8,11 @@
 #include "support/parity_calls.h"
 #include "support/pool_calls.h"
 
-/* Three files of one version on which only a fault turns a call away, as far as the version goes.
- * On `changing`, for changes, asks and draws, token 1 is spent; on `judging`, for judgings, causes
- * and proofs, token 2 is drawn; on `settling`, for commits and drops, a load is pending in version
- * 3. And a pooled judging and a pooling that would be accepted, of files of all versions, this one
- * first. */
+/* Three files of one version, on which only a fault makes the library refuse a call, as far as the
+ * version goes. On `changing`, for changes, asks and draws, token 1 is spent; on `judging`, for
+ * judgings, causes and proofs, token 2 is drawn; on `settling`, for commits and drops, a load is
+ * pending in version 3. And a pooled judging and a pooling that would be accepted, of files of all
+ * versions, this one first. */
 static struct file changing, judging, settling;
 static struct call judging_pool, pooling;
 static uint64_t version;

@@ -122,7 +122,8 @@ static struct buffer another_card(const struct file *file, const uint8_t *card)
 /* Replaces one of the other cards of a pooled judging: "whatever else they hold" */
 static void disturb_pool(const struct file *file, struct call *call)
 {
-    size_t offsets[POOL_ROOM], at = offsets[chance_below(pool_cut(&call->args[CARDS], offsets))];
+    size_t offsets[POOL_ROOM], count = pool_cut(&call->args[CARDS], offsets);
+    size_t at = offsets[chance_below(count)];
     if (at == call->card_offset)
         return;
     struct buffer other =

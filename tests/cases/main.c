@@ -71,6 +71,7 @@ int main(int count, char **words)
     test_indistinguishable();
     test_causes();
     test_pools();
+    test_pool_lists();
     test_positions();
     test_sheets();
     test_parity();

@@ -1,5 +1,5 @@
-/* Pooled replies: of every number of files, cut and broken in every way, what the xor shows and
- * what not, and lists on several files. */
+/* Pooled replies: of every number of files, cut and broken in every way, and what the xor shows and
+ * what not. */
 #include "cases.h"
 
 #include "support/chance.h"
@@ -23,7 +23,7 @@ enum {
 
 /* A pool of THREE has a card of each version. Under a memory checker one length in so many is
  * tried. */
-enum { THREE = 3, LENGTHS = 7, LISTS = 200, LONGEST = 20 };
+enum { THREE = 3, LENGTHS = 7 };
 
 /* Files of one master, each with a token drawn, the versions in turn; and of the first so many of
  * them the pooled judging and the pooling. */
@@ -356,63 +356,6 @@ static void orders(void)
     test_end();
 }
 
-/* ---- Lists on several files ---- */
-
-/* A pooled judging of all these files, from any of them on, after draws of some; at times with a
- * bit of the reply flipped. */
-static void pool_step(struct file *const *held, size_t count)
-{
-    struct file *turned[THREE];
-    const struct file *shown[THREE];
-    size_t first = chance_below(count);
-    for (size_t e = 0; e < count; e++) {
-        struct call draw = file_call(held[e], chance_of(8) ? JUDGE : DRAW);
-        file_run(held[e], &draw);
-        shown[e] = turned[e] = held[(first + e) % count];
-    }
-    struct call call = pool_call(shown, count);
-    if (chance_of(4))
-        buffer_flip(&call.args[REPLY], chance_below(8 * call.args[REPLY].length));
-    pool_run(turned, count, &call);
-}
-
-/* Any call on one of these files; the state may turn it away. */
-static void single_step(struct file *const *held, size_t count)
-{
-    static const enum kind kinds[] = {UPDATE,     DELETE, APPEND, LOAD, BATCH,
-                                      ASK_UPDATE, COMMIT, DROP,   DRAW, JUDGE};
-    struct file *file = held[chance_below(count)];
-    struct call call = file_call(file, kinds[chance_below(COUNT(kinds))]);
-    file_run(file, &call);
-}
-
-/* "a pooled judgement is a step on each card" */
-static void list(size_t count)
-{
-    struct file own[THREE], *held[THREE];
-    for (size_t e = 0; e < count; e++) {
-        own[e] = pool_file(&files[0].master, any_version());
-        held[e] = &own[e];
-    }
-    for (uint64_t steps = chance_below(LONGEST + 1); steps; steps--)
-        if (chance_of(4))
-            pool_step(held, count);
-        else
-            single_step(held, count);
-    for (size_t e = 0; e < count; e++) {
-        file_expect_book(held[e]);
-        file_end(held[e]);
-    }
-}
-
-static void lists(void)
-{
-    test_begin("%d random lists on two and three files with pooled judgings of them", LISTS);
-    for (uint64_t i = 0; i < LISTS; i = tried_after(i, 5))
-        list(2 + i % 2);
-    test_end();
-}
-
 void test_pools(void)
 {
     begin();
@@ -426,6 +369,5 @@ void test_pools(void)
     as_single();
     cancelling();
     orders();
-    lists();
     end();
 }

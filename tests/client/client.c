@@ -9,7 +9,7 @@
 
 /* A buffer as the calls take it; who makes a change, and the file's own three. */
 #define ARG(bytes) bytes, sizeof bytes
-#define FILE_LENT LEGBARO_PLANNER, ARG(master), ARG(card), ARG(table)
+#define FILE_ARGS LEGBARO_PLANNER, ARG(master), ARG(card), ARG(table)
 
 static const uint8_t master[LEGBARO_MASTER_BYTES] = {1}, id[LEGBARO_ID_BYTES] = {2}, zeros[B] = {0};
 static const uint8_t block[B] = {3}, two[2 * B] = {0}, live[1] = {LEGBARO_LIVE};
@@ -30,28 +30,28 @@ static uint64_t changes(void)
 {
     uint64_t numbers = legbaro_set_up(ARG(master), ARG(id), LEGBARO_TWO_STEPS, B, D, R, T, D - 1,
                                       blocks, (D - 1) * B, ARG(card), ARG(table), ARG(totals));
-    numbers |= legbaro_append(FILE_LENT, ARG(zeros), ARG(totals));
-    numbers |= legbaro_load(FILE_LENT, ARG(two), ARG(totals));
-    numbers |= legbaro_update(FILE_LENT, 1, ARG(zeros), ARG(live), ARG(block), ARG(totals));
-    numbers |= legbaro_delete(FILE_LENT, 1, ARG(block), ARG(live), ARG(totals));
-    numbers |= legbaro_batch(FILE_LENT, ARG(items), ARG(totals));
+    numbers |= legbaro_append(FILE_ARGS, ARG(zeros), ARG(totals));
+    numbers |= legbaro_load(FILE_ARGS, ARG(two), ARG(totals));
+    numbers |= legbaro_update(FILE_ARGS, 1, ARG(zeros), ARG(live), ARG(block), ARG(totals));
+    numbers |= legbaro_delete(FILE_ARGS, 1, ARG(block), ARG(live), ARG(totals));
+    numbers |= legbaro_batch(FILE_ARGS, ARG(items), ARG(totals));
     return numbers;
 }
 
 static uint64_t asks(void)
 {
-    uint64_t numbers = legbaro_ask_append(FILE_LENT, ARG(second), ARG(zeros), ARG(totals));
+    uint64_t numbers = legbaro_ask_append(FILE_ARGS, ARG(second), ARG(zeros), ARG(totals));
     numbers |= legbaro_drop(LEGBARO_PLANNER, ARG(card));
-    numbers |= legbaro_ask_load(FILE_LENT, ARG(second), ARG(two), ARG(totals));
+    numbers |= legbaro_ask_load(FILE_ARGS, ARG(second), ARG(two), ARG(totals));
     numbers |= legbaro_drop(LEGBARO_PLANNER, ARG(card));
-    numbers |= legbaro_ask_update(FILE_LENT, ARG(second), 2, ARG(zeros), ARG(live), ARG(block),
+    numbers |= legbaro_ask_update(FILE_ARGS, ARG(second), 2, ARG(zeros), ARG(live), ARG(block),
                                   ARG(totals));
     numbers |= legbaro_drop(LEGBARO_PLANNER, ARG(card));
-    numbers |= legbaro_ask_delete(FILE_LENT, ARG(second), 2, ARG(zeros), ARG(live), ARG(totals));
+    numbers |= legbaro_ask_delete(FILE_ARGS, ARG(second), 2, ARG(zeros), ARG(live), ARG(totals));
     numbers |= legbaro_drop(LEGBARO_PLANNER, ARG(card));
-    numbers |= legbaro_ask_batch(FILE_LENT, ARG(second), ARG(items), ARG(totals));
+    numbers |= legbaro_ask_batch(FILE_ARGS, ARG(second), ARG(items), ARG(totals));
     numbers |= legbaro_drop(LEGBARO_PLANNER, ARG(card));
-    numbers |= legbaro_ask_update(FILE_LENT, ARG(second), 2, ARG(zeros), ARG(live), ARG(zeros),
+    numbers |= legbaro_ask_update(FILE_ARGS, ARG(second), 2, ARG(zeros), ARG(live), ARG(zeros),
                                   ARG(totals));
     numbers |= legbaro_commit(LEGBARO_PLANNER, ARG(card));
     return numbers;

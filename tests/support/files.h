@@ -33,7 +33,7 @@ void file_end(struct file *file);
  * random new block, a load a few random blocks, a batch a few items, an ask any bytes where the
  * second table is to be, a draw any schedule and any time that it allows, a proof the message drawn
  * last and the current blocks and marks, a judging, or the question for a cause, the reply of such
- * a proof; and any bytes where totals are to be. The state may still turn it away. */
+ * a proof; and any bytes where totals are to be. The state may still refuse it. */
 struct call file_call(const struct file *file, enum kind kind);
 
 /* An update or a deletion of block m: present bytes and mark, of an update a random new block. */
