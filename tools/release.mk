@@ -39,6 +39,11 @@ $(OUT)/tests-shared: $(wildcard tests/cases/*.[ch]) $(SHARED) $(SO_FILE) $(HEADE
 	@mkdir -p $(OUT)
 	$(COMPILE) -Itests -pthread $(filter %.c,$^) -o $@ -L$(SO) -Wl,-rpath,$(abspath $(SO)) -llegbaro -lcrypto -lisal
 
+$(OUT)/loaded: tests/chosen/loaded.c $(LIB)/liblegbaro.a
+	@tools/needs cc
+	@mkdir -p $(OUT)
+	$(COMPILE) -I$(MODULE) $< -o $@ -ldl
+
 LINTIAN ?= lintian --fail-on=error,warning --allow-root
 
 packages: lib

@@ -196,12 +196,12 @@ static void look(int status, void *nothing)
 static int split(char *words, char at, char **given)
 {
     int count = 0;
-    for (char *word = words; word && count < MOST_WORDS; count++) {
-        given[count] = word;
-        word = strchr(word, at);
-        if (word)
-            *word++ = 0;
-    }
+    given[count++] = words;
+    for (; *words && count < MOST_WORDS; words++)
+        if (*words == at) {
+            *words = 0;
+            given[count++] = words + 1;
+        }
     given[count] = NULL;
     return count;
 }
