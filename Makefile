@@ -9,16 +9,19 @@
 # make test               the gate: proves every crate, tries the edits that must be refused, runs the programs and the C tests
 # make compare            the C tests alone: the library against the reference implementation
 # make try-command        the command's tests alone: command/tests
+# make soak               random commands, killed at random moments, held to a book in Python: SECONDS=600 SEED=38 are the defaults
 # make chosen             prints which variant the archive takes on this processor
 # make bench              times the library against the reference implementation and ISA-L; the tables of docs/PERFORMANCE.md
 # make headline           times one great set-up, whole: 11,680 tokens of 512 positions over 4,096 blocks of 4,096 bytes
 # make prove              proves every crate that changed since it was last proved, and runs the programs
-.PHONY: command demo try-command week sheet lib install test compare chosen bench headline prove
+.PHONY: command demo try-command soak week sheet lib install test compare chosen bench headline prove
 
 PREFIX ?= /usr/local
 LIBDIR ?= $(PREFIX)/lib
 CFLAGS ?= -O2
 CPU ?=
+SECONDS ?= 600
+SEED ?= 38
 MODULE := target/module
 LIB := target/legbaro$(CPU:%=-%)
 OUT := target/c$(CPU:%=-%)
@@ -38,7 +41,12 @@ demo: $(OUT)/legbaro
 	@command/demo $<
 
 try-command: $(OUT)/legbaro $(OUT)/shim.so
+	@tools/needs python3
 	@command/tests/all $(OUT)/legbaro $(OUT)/shim.so
+
+soak: $(OUT)/legbaro $(OUT)/shim.so
+	@tools/needs python3
+	@command/tests/soak $(OUT)/legbaro $(OUT)/shim.so --seconds $(SECONDS) --seed $(SEED)
 
 $(OUT)/shim.so: command/tests/shim.c
 	@mkdir -p $(OUT)

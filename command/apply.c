@@ -20,7 +20,7 @@ static void refuse_size(const struct host *host, const char *name, uint64_t leng
         map_whole(path, length, "what stands", lost);
 }
 
-/* Refuses a change that does not follow what stands, and files that are not as long as what stands. */
+/* Refuses a change that does not follow what stands. */
 static void refuse_unfit(const struct host *host, const struct change *c, const char *path)
 {
     const struct change *s = &host->stands;
@@ -37,6 +37,14 @@ static void refuse_unfit(const struct host *host, const struct change *c, const 
                "%s follows counter %" PRIu64 " with %" PRIu64 " blocks, and counter %" PRIu64
                " with %" PRIu64 " blocks stands",
                path, c->counter_before, c->blocks_before, s->counter, s->blocks_after);
+}
+
+/* Refuses files that are not as long as what stands. */
+static void refuse_sizes(const struct host *host)
+{
+    const struct change *s = &host->stands;
+    if (!host->begun)
+        return;
     refuse_size(host, "blocks", s->blocks_after * s->block_bytes);
     if (s->version != LEGBARO_WITHOUT_MARKS)
         refuse_size(host, "marks", s->blocks_after);
@@ -56,9 +64,11 @@ static int go_on(const struct options *o)
         refuse(WRONG_USE, "Write 'legbaro apply --check CHANGE' or 'legbaro apply --committed RECEIPT CHANGE'.",
                "the change that %s is about is missing", o->check ? "--check" : "--committed");
     struct host host = open_host(o->folder, 0, 0);
+    int half = host.half;
+    complete(&host);
     if (host.begun)
         tell_stands(&host.stands);
-    if (host.went_on)
+    if (half)
         say("what was half in place is in place now: file %s has %" PRIu64
             " blocks at counter %" PRIu64,
             id_words(host.stands.id), host.stands.blocks_after, host.stands.counter);
@@ -68,10 +78,18 @@ static int go_on(const struct options *o)
 }
 
 /* A change with the numbers of the one that stands: it is that one, or another. */
-static int tell_in_place(const struct host *host, const struct change *c, const char *path)
+static int tell_in_place(const struct options *o, struct host *host, const struct change *c,
+                         const char *path)
 {
     if (host->damaged)
         refuse_damaged(host);
+    if (is_being_put(host, c)) {
+        if (o->check) {
+            say("%s is half in place: 'legbaro apply' goes on with it", path);
+            return ended(DONE);
+        }
+        complete(host);
+    }
     const char *other = differs(host, c);
     about(path);
     if (other && !strcmp(other, "table"))
@@ -87,6 +105,8 @@ static int tell_in_place(const struct host *host, const struct change *c, const 
                "has changed.",
                "%s is the change in place by its table, and %s has other %s than it brought", path,
                path_in(host->folder.path, other), other);
+    if (!o->check)
+        complete(host);
     say("the change is in place already: file %s has %" PRIu64 " blocks at counter %" PRIu64,
         id_words(c->id), c->blocks_after, c->counter);
     return ended(DONE);
@@ -130,11 +150,15 @@ int run_apply(const struct options *o)
     refuse_other_file(&host, c.id, path);
     tell_stands(&c);
     if (has_its_numbers(&host, &c))
-        return tell_in_place(&host, &c, path);
+        return tell_in_place(o, &host, &c, path);
     refuse_unfit(&host, &c, path);
+    if (!host.half && !is_in(&host.folder, "adding"))
+        refuse_sizes(&host);
     if (o->check)
         return tell_fits(&c, path);
     needs_receipt(o, &c, path);
+    complete(&host);
+    refuse_sizes(&host);
     if (host.begun)
         put_in_place(&host, &c);
     else

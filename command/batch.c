@@ -18,16 +18,20 @@ struct line {
     char words[4096];
 };
 
+/* Refuses the list: the line that is read, or the whole list before its first line. */
 static void bad_line(const struct line *line, const char *what)
 {
-    about(line->path);
-    field("line", line->number);
+    const char *path = input_words(line->path);
+    const char *where = line->number ? text("%s, line %u", path, line->number) : path;
+    about(path);
+    if (line->number)
+        field("line", line->number);
     field("code", LEGBARO_BAD_BATCH);
-    refuse(TURNED_AWAY, "Lines are 'update NUMBER FILE' or 'delete NUMBER', 64 at most, and the numbers rise.", "%s, line %u: %s (code %d)",
-           line->path, line->number, what, LEGBARO_BAD_BATCH);
+    refuse(TURNED_AWAY, "Lines are 'update NUMBER FILE' or 'delete NUMBER', at most 64, in the order of the blocks.",
+           "%s: %s (code %d)", where, what, LEGBARO_BAD_BATCH);
 }
 
-/* The next line with an item of the text from *at on; answers whether there is one. */
+/* The next line with an item of the text from *at on; returns whether there is one. */
 static int next_line(struct line *line, struct bytes list, size_t *at)
 {
     while (*at < list.length) {
@@ -37,6 +41,8 @@ static int next_line(struct line *line, struct bytes list, size_t *at)
         *at += length + 1;
         if (length >= sizeof line->words)
             bad_line(line, "it is too long");
+        if (memchr(start, 0, length))
+            bad_line(line, "it has a NUL byte");
         memcpy(line->words, start, length);
         line->words[length] = 0;
         size_t blank = strspn(line->words, " \t\r");
@@ -55,11 +61,11 @@ static void add_item(struct batch *b, const struct line *line, uint64_t version,
     if (!update && !(words == 2 && !strcmp(kind, "delete")))
         bad_line(line, "it is neither an update nor a deletion");
     if (!read_number(digits, &number) || number > UINT32_MAX)
-        bad_line(line, "its number is none of a block");
+        bad_line(line, "its number is not the number of a block");
     if (number <= before)
-        bad_line(line, "its number is not above the one before");
+        bad_line(line, "its number is not above the number before it");
     if (b->count == LEGBARO_MOST_ITEMS)
-        bad_line(line, "it is the 65th item");
+        bad_line(line, "it is the 65th line of the batch");
     uint8_t *item = b->items.at + b->count * LEGBARO_ITEM_BYTES(version, block_bytes);
     uint8_t *place = b->places.at + b->count * CHANGE_ITEM_BYTES, *block = b->blocks.at + b->count * block_bytes;
     item[LEGBARO_ITEM_KIND] = update ? LEGBARO_ITEM_UPDATE : LEGBARO_ITEM_DELETE;
@@ -67,7 +73,7 @@ static void add_item(struct batch *b, const struct line *line, uint64_t version,
     put_number(place, 4, number);
     place[4] = update ? LEGBARO_LIVE : LEGBARO_DELETED;
     if (update) {
-        memcpy(block, map_whole(file, block_bytes, "a block of this file", "Give a file of one block.").at, block_bytes);
+        memcpy(block, small_whole(file, block_bytes, "a block of this file", "Give a file of one block.").at, block_bytes);
         memcpy(item + LEGBARO_ITEM_NEW(version, block_bytes), block, block_bytes);
     }
     b->count++;
@@ -75,15 +81,17 @@ static void add_item(struct batch *b, const struct line *line, uint64_t version,
 
 struct batch read_batch(const char *path, uint64_t version, uint64_t block_bytes)
 {
-    struct bytes list = map_file(path);
+    struct bytes list = read_small(path, MOST_TEXT_BYTES, "the list of a batch");
     struct line line = {path, 0, ""};
     struct batch b = {0, room(LEGBARO_MOST_ITEMS * LEGBARO_ITEM_BYTES(version, block_bytes)), room(LEGBARO_MOST_ITEMS * CHANGE_ITEM_BYTES),
                       room(LEGBARO_MOST_ITEMS * block_bytes)};
     size_t at = 0;
     while (next_line(&line, list, &at))
         add_item(&b, &line, version, block_bytes);
-    if (!b.count)
-        bad_line(&line, "the list has no item");
+    if (!b.count) {
+        line.number = 0;
+        bad_line(&line, "it has no update and no deletion");
+    }
     b.items.length = b.count * LEGBARO_ITEM_BYTES(version, block_bytes);
     b.places.length = b.count * CHANGE_ITEM_BYTES;
     b.blocks.length = b.count * block_bytes;

@@ -5,8 +5,8 @@
 
 #include "legbaro.h"
 
-#include <ctype.h>
 #include <inttypes.h>
+#include <stdio.h>
 #include <string.h>
 #include <zlib.h>
 
@@ -234,9 +234,20 @@ int read_applying(const char *path, struct change *change)
 
 const char *id_words(const uint8_t *id)
 {
-    char *words = text("%.*s", LEGBARO_ID_BYTES, (const char *)id);
-    for (char *at = words; *at; at++)
-        if (!isprint((unsigned char)*at))
-            *at = '?';
-    return *words ? words : "(no name)";
+    char *bytes = text("%8s", ""), *words = text("%32s", ""), *to = words;
+    int length = LEGBARO_ID_BYTES;
+    memcpy(bytes, id, LEGBARO_ID_BYTES);
+    while (length && !bytes[length - 1])
+        length--;
+    for (int at = 0; at < length;) {
+        int plain = bytes[at] == '\\' ? 0 : plain_length(bytes + at);
+        if (plain) {
+            memcpy(to, bytes + at, (size_t)plain);
+            to += plain;
+            at += plain;
+        } else
+            to += sprintf(to, "\\x%02x", id[at++]);
+    }
+    *to = 0;
+    return length ? words : "(no name)";
 }

@@ -258,7 +258,7 @@ static int end_pending(const struct options *o, ending *call, const char *done, 
         turn_away(result, path_in(o->folder, "card"));
     settle(&owner);
     if (commits)
-        known = prepare_receipt(&owner.folder, card);
+        known = prepare_receipt(&owner.folder, card, was);
     store_card(&owner);
     field("counter", in_card(owner.card, LEGBARO_CARD_COUNTER, 8));
     field("blocks", in_card(owner.card, LEGBARO_CARD_BLOCKS, 4));
@@ -270,16 +270,44 @@ static int end_pending(const struct options *o, ending *call, const char *done, 
         say("warning: %s is not there or is damaged. Unless the host has it whole, this file can't be "
             "changed or audited any more",
             path_in(o->folder, "change"));
+    if (known)
+        say("next: %s", next);
+    else
+        say("next: send %s to the host; if the host has the change, it runs 'legbaro apply --committed "
+            "committed change'",
+            path_in(o->folder, "committed"));
+    return ended(DONE);
+}
+
+/* Writes a lost receipt again: that of the change that stands, where its file says that it was asked. */
+static int commit_again(const struct options *o, const char *next)
+{
+    struct bytes none = room(0);
+    refuse_without_right(legbaro_commit(o->role, LENT(none)), o);
+    struct owner owner = open_owner(o, 0);
+    const char *path = path_in(o->folder, "change");
+    uint64_t counter = in_card(owner.card, LEGBARO_CARD_COUNTER, 8);
+    struct change change;
+    if (pending(owner.card))
+        turn_away(LEGBARO_CHANGE_PENDING, path_in(o->folder, "card"));
+    about(path);
+    if (!is_in(&owner.folder, "change") || !peek_change(path, &change) || change.counter != counter || !change.asked)
+        refuse(TURNED_AWAY, "A receipt is made of the change that was committed last. Put that change back first.",
+               "%s is not there, or was not asked and committed", path);
+    settle(&owner);
+    prepare_receipt(&owner.folder, owner.card, counter);
+    place(&owner.folder, "committed");
+    field("counter", counter);
+    say("the receipt of the change at counter %" PRIu64 " is written again", counter);
     say("next: %s", next);
     return ended(DONE);
 }
 
 int run_commit(const struct options *o)
 {
-    return end_pending(o, legbaro_commit, "stands",
-                       text("send %s and %s to the host, who runs 'legbaro apply --committed "
-                            "committed change'",
-                            path_in(o->folder, "change"), path_in(o->folder, "committed")));
+    const char *next = text("send %s and %s to the host, who runs 'legbaro apply --committed committed change'",
+                            path_in(o->folder, "change"), path_in(o->folder, "committed"));
+    return o->again ? commit_again(o, next) : end_pending(o, legbaro_commit, "stands", next);
 }
 
 int run_drop(const struct options *o)

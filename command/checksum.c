@@ -11,7 +11,7 @@
 /* Two checksums, a blank between them and the end of the line. */
 enum { DIGITS = 8, LINE_BYTES = 2 * DIGITS + 2 };
 
-static const char name[] = "card.sum";
+static const char name[] = "card.sum", prepared[] = "card.sum.new";
 
 static const char *digits_of(struct bytes card)
 {
@@ -37,13 +37,6 @@ static int is_second(const char *line, struct bytes card)
     return strlen(line) == LINE_BYTES && !strncmp(line + DIGITS + 1, digits_of(card), DIGITS);
 }
 
-static void store_line(const struct folder *folder, struct bytes card, struct bytes before)
-{
-    const char *line = text("%s %s\n", digits_of(card), digits_of(before));
-    const struct piece piece = {line, strlen(line)};
-    store(folder, name, 0600, &piece, 1);
-}
-
 enum newest is_newest(const struct folder *folder, struct bytes card)
 {
     const char *line = read_line(folder);
@@ -56,16 +49,28 @@ enum newest is_newest(const struct folder *folder, struct bytes card)
     return NOT_NEWEST;
 }
 
-void store_checksum(const struct folder *folder, struct bytes card, struct bytes before)
+void prepare_checksum(const struct folder *folder, struct bytes card, struct bytes before)
 {
-    store_line(folder, card, before);
+    const char *line = text("%s %s\n", digits_of(card), digits_of(before));
+    const struct piece piece = {line, strlen(line)};
+    prepare(folder, name, 0600, &piece, 1);
+}
+
+void place_checksum(const struct folder *folder)
+{
+    if (is_in(folder, prepared))
+        place(folder, name);
 }
 
 void settle_checksum(const struct folder *folder, struct bytes card)
 {
     const char *line = read_line(folder);
-    if (line && (!is_first(line, card) || is_second(line, room(0))))
-        store_line(folder, card, card);
+    if (is_in(folder, prepared))
+        take_away(folder, prepared);
+    if (!line || (is_first(line, card) && !is_second(line, room(0))))
+        return;
+    prepare_checksum(folder, card, card);
+    place_checksum(folder);
 }
 
 int set_up_stopped(const struct folder *folder)

@@ -14,10 +14,12 @@
 enum newest { NEWEST, NOT_NEWEST, NO_CHECKSUM };
 enum newest is_newest(const struct folder *folder, struct bytes card);
 
-/* Writes the checksums of a card that is about to take its place, and of the one before it, which is empty at set-up. */
-void store_checksum(const struct folder *folder, struct bytes card, struct bytes before);
+/* Prepares the checksums of a card that is about to take its place, and of the one before it, which is empty at set-up; puts them in
+ * their place, where they are prepared. */
+void prepare_checksum(const struct folder *folder, struct bytes card, struct bytes before);
+void place_checksum(const struct folder *folder);
 
-/* Writes the checksum of the card that is in its place, where the file still speaks of one that was to come or of a set-up. */
+/* Removes what was prepared, and writes the checksum of the card that is in its place, where the file still speaks of one that was to come or of a set-up. */
 void settle_checksum(const struct folder *folder, struct bytes card);
 
 /* Whether a set-up was stopped before its card took its place: there is a first checksum and no card. */

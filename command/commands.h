@@ -32,6 +32,7 @@ int run_judge_pool(const struct options *options);
 int run_positions(const struct options *options);
 int run_sheet(const struct options *options);
 int run_parity_encode(const struct options *options);
+int run_parity_check(const struct options *options);
 int run_parity_rebuild(const struct options *options);
 
 #endif

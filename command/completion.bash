@@ -23,7 +23,7 @@ _legbaro() {
     elif [ "$command" = ask ] && [ "$second" = "$word" ]; then
         mapfile -t COMPREPLY < <(compgen -W 'append load update delete batch' -- "$word")
     elif [ "$command" = parity ] && [ "$second" = "$word" ]; then
-        mapfile -t COMPREPLY < <(compgen -W 'encode rebuild' -- "$word")
+        mapfile -t COMPREPLY < <(compgen -W 'encode check rebuild' -- "$word")
     elif [[ $word == -* ]]; then
         mapfile -t COMPREPLY < <(compgen -W "-C --json --help $(_legbaro_options "$command" "$second")" -- "$word")
     else
@@ -37,7 +37,8 @@ _legbaro_options() { # COMMAND SECOND
     set-up) echo --key --id --version --block-bytes --rows --positions --tokens --progress ;;
     append | load | batch) echo --role --host --key --progress ;;
     update | delete) echo --role --host --key --progress --old --mark ;;
-    commit | drop) echo --role ;;
+    commit) echo --role --again ;;
+    drop) echo --role ;;
     draw) echo --role --key --plan --at --again ;;
     wait) echo --plan --at ;;
     cause) echo --role --key ;;
@@ -46,7 +47,12 @@ _legbaro_options() { # COMMAND SECOND
     prove | pool) echo --out --force ;;
     positions) echo --positions --rows --blocks ;;
     sheet) echo --block-bytes --rows --positions --tokens --blocks --damaged --svg --force ;;
-    parity) echo --block-bytes --data --parity --out --force "$([ "$2" != rebuild ] || echo --lost --lost-parity)" ;;
+    parity)
+        echo --block-bytes --data --parity
+        [ "$2" = check ] || echo --out --force
+        [ "$2" = encode ] || echo --blocks
+        [ "$2" != rebuild ] || echo --lost --lost-parity
+        ;;
     esac
 }
 

@@ -94,6 +94,8 @@ static void undo_prepared(void)
 {
     for (; prepared && !placed; prepared = prepared->next)
         unlinkat(prepared->folder, prepared->name, 0);
+    if (!placed)
+        undo_folder();
 }
 
 /* What an earlier command prepared does not count. */
@@ -164,10 +166,20 @@ void place(const struct folder *folder, const char *name)
     do
         result = renameat(folder->at, beside, folder->at, name);
     while (interrupted(result));
-    if (result != 0)
+    if (result != 0) {
+        int fault = errno;
+        if (is_in(folder, beside))
+            undo_prepared();
+        errno = fault;
         file_fault("write", path_in(folder->path, name));
+    }
     note_placed(folder, beside);
+    int was = is_decided();
+    if (!was)
+        decided("The file is in its place, but may be lost where the power fails now.");
     sync_folder(folder);
+    if (!was)
+        decided(NULL);
 }
 
 void take_away(const struct folder *folder, const char *name)

@@ -267,6 +267,15 @@ struct bytes copy_of(struct bytes mapped)
 
 /* ---- Folders ---- */
 
+/* The folder that this run has made, or null. */
+static const char *made;
+
+void undo_folder(void)
+{
+    if (made)
+        rmdir(made);
+}
+
 /* Makes a folder where it is missing; its name is on the disk then. */
 static void make_folder(const char *path)
 {
@@ -275,6 +284,7 @@ static void make_folder(const char *path)
             file_fault("make", path);
         return;
     }
+    made = path;
     int above = open(text("%s/..", path), O_RDONLY | O_DIRECTORY | O_CLOEXEC);
     if (above < 0 || !sync_file(above))
         file_fault("store the name of", path);

@@ -68,6 +68,9 @@ struct folder {
  * and where a file that commands replace is a symbolic link. With `make` a missing folder is made. */
 struct folder lock_folder(const char *path, int make);
 
+/* Removes the folder that lock_folder has made in this run, where it is empty. */
+void undo_folder(void);
+
 /* Ends the program where a file of the folder is a symbolic link, which a rename would replace. */
 void refuse_link(const struct folder *folder, const char *name);
 

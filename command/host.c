@@ -91,9 +91,14 @@ static int has_each(const struct host *host, const char *name, const struct chan
     return 1;
 }
 
+int is_being_put(const struct host *host, const struct change *c)
+{
+    return host->half && same_bytes(host->applying.table, c->table);
+}
+
 const char *differs(const struct host *host, const struct change *c)
 {
-    if (!same_bytes(map_file(path_in(host->folder.path, "table")), c->table))
+    if (host->half || !same_bytes(map_file(path_in(host->folder.path, "table")), c->table))
         return "table";
     if (!has_each(host, "blocks", c, c->blocks, c->block_bytes))
         return "blocks";
@@ -156,14 +161,13 @@ static int cut_back(const struct host *host, const char *name, uint64_t width)
     return close(file) == 0;
 }
 
-/* Where a command stopped while it added blocks, what stands is whole. */
+/* Where a command stopped while it added blocks, what stands is whole, and says how long `blocks` is.
+ * A damaged `adding` is undone in the same way: else the blocks after the last would stay for good. */
 static void undo_adding(const struct host *host)
 {
-    struct change c;
     if (!is_in(&host->folder, "adding"))
         return;
-    if (peek_change(path_in(host->folder.path, "adding"), &c) && follows(host, &c))
-        must(cut_back(host, "blocks", c.block_bytes), host, "blocks");
+    must(cut_back(host, "blocks", host->stands.block_bytes), host, "blocks");
     take_away(&host->folder, "adding");
 }
 
@@ -222,6 +226,7 @@ static void put_applying(struct host *host, const struct change *c)
 void put_in_place(struct host *host, const struct change *change)
 {
     struct change rest = *change;
+    decided("What stands has not changed. Mend what is wrong, and run the command again.");
     if (host->damaged) {
         must(cut_back(host, "blocks", change->block_bytes), host, "blocks");
         if (has_marks(change))
@@ -254,20 +259,29 @@ static int can_go_on(const struct host *host, struct change *c)
                                 (uint64_t)status.st_size == c->blocks_after * c->block_bytes);
 }
 
-static void go_on(struct host *host, int mends)
+/* Looks at `applying`: what it is to make is what stands, for every check. */
+static void look_at_applying(struct host *host, int mends)
 {
     struct change c;
     host->damaged = !can_go_on(host, &c);
-    if (host->damaged) {
-        if (!mends)
-            refuse_damaged(host);
-        return;
+    host->half = !host->damaged;
+    if (host->damaged && !mends)
+        refuse_damaged(host);
+    if (host->half)
+        host->stands = host->applying = c;
+}
+
+void complete(struct host *host)
+{
+    if (host->half) {
+        decided("A change is half in place, and kept as 'applying'. Mend what is wrong, and run the "
+                "command again: it goes on from there.");
+        put_applying(host, &host->applying);
+        decided(NULL);
+        host->half = 0;
+    } else if (host->begun && !host->damaged) {
+        undo_adding(host);
     }
-    decided("A change is half in place, and kept as 'applying'. Mend what is wrong, and run the "
-            "command again: it goes on from there.");
-    put_applying(host, &c);
-    decided(NULL);
-    host->went_on = 1;
 }
 
 struct host open_host(const char *path, int make, int mends)
@@ -285,9 +299,7 @@ struct host open_host(const char *path, int make, int mends)
         host.stands = change_of_header(header.at);
     }
     if (is_in(&host.folder, "applying"))
-        go_on(&host, mends);
-    else if (host.begun)
-        undo_adding(&host);
+        look_at_applying(&host, mends);
     return host;
 }
 

@@ -27,7 +27,7 @@ static const struct command commands[] = {
     {"ask update", CORRECTIONS, 2, 2, "NUMBER BLOCK", "ask for an update", run_update},
     {"ask delete", CORRECTIONS, 1, 1, "NUMBER", "ask for a deletion", run_delete},
     {"ask batch", CHANGES, 1, 1, "LIST", "ask for a batch", run_batch},
-    {"commit", " role ", 0, 0, "", "let the change that is pending stand", run_commit},
+    {"commit", " role again ", 0, 0, "", "let the change that is pending stand", run_commit},
     {"drop", " role ", 0, 0, "", "give the change that is pending up", run_drop},
     {"draw", " role key plan at again ", 0, 0, "", "draw a token: the message for the host", run_draw},
     {"wait", " plan at ", 0, 0, "", "how long until the plan allows a draw", run_wait},
@@ -42,7 +42,8 @@ static const struct command commands[] = {
     {"sheet", " block-bytes rows positions tokens blocks damaged svg force ", 0, 0, "", "room, reading, work and risk of a planned file",
      run_sheet},
     {"parity encode", " block-bytes data parity out force ", 1, 1, "BLOCKS", "parity blocks for the blocks of a file", run_parity_encode},
-    {"parity rebuild", " block-bytes data parity lost lost-parity out force ", 2, 2, "BLOCKS PARITY", "lost blocks from the others",
+    {"parity check", " block-bytes data parity blocks ", 2, 2, "BLOCKS PARITY", "whether blocks and parity agree", run_parity_check},
+    {"parity rebuild", " block-bytes data parity blocks lost lost-parity out force ", 2, 2, "BLOCKS PARITY", "lost blocks from the others",
      run_parity_rebuild},
 };
 
@@ -54,7 +55,7 @@ static int help(void)
     for (int i = 0; i < COMMANDS; i++)
         printf("  %-15s %-15s %s\n", commands[i].name, commands[i].words, commands[i].purpose);
     puts("\nEvery command takes -C FOLDER, the owner's or the host's folder, and --json. The manual is legbaro(1).\n"
-         "Exit status: 0 done or accepted, 1 rejected, 2 turned away, 3 wrong use, 4 a file can't be read or written.");
+         "Exit status: 0 done or accepted, 1 rejected or parity does not agree, 2 refused, 3 wrong use, 4 a file can't be read or written.");
     return ended(DONE);
 }
 

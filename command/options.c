@@ -1,6 +1,7 @@
 /* See options.h. */
 #include "options.h"
 #include "files.h"
+#include "numbers.h"
 #include "report.h"
 
 #include "legbaro.h"
@@ -143,8 +144,9 @@ struct options read_options(const struct command *command, int count, char **giv
         else
             i = read_option(command, &o, i, count, given);
     if (o.count < command->least || o.count > command->most)
-        refuse(WRONG_USE, see, "'legbaro %s' takes %s, and was given %d words", command->name,
-               *command->words ? command->words : "no words beside its options", o.count);
+        refuse(WRONG_USE, see, "'legbaro %s' takes %s, and was given %s", command->name,
+               *command->words ? command->words : "no words beside its options",
+               counted((uint64_t)o.count, "word", "words"));
     return o;
 }
 

@@ -124,7 +124,7 @@ static void settle_prepared(const struct owner *owner, const char *name, int kno
 int is_unsettled(const struct owner *owner)
 {
     const struct folder *folder = &owner->folder;
-    return is_in(folder, "card.new") || is_in(folder, "change.new") || is_in(folder, "message.new") ||
+    return is_in(folder, "card.new") || is_in(folder, "card.sum.new") || is_in(folder, "change.new") || is_in(folder, "message.new") ||
            is_in(folder, "committed.new") ||
            is_dropped_change(folder, owner->before) ||
            (is_in(folder, "message") && !is_open_message(folder, "message", owner->before));
@@ -152,12 +152,13 @@ void prepare_card(const struct owner *owner)
 {
     const struct piece piece = {owner->card.at, owner->card.length};
     prepare(&owner->folder, "card", 0600, &piece, 1);
-    store_checksum(&owner->folder, owner->card, owner->before);
+    prepare_checksum(&owner->folder, owner->card, owner->before);
 }
 
 void place_card(struct owner *owner)
 {
     decided("Look with 'legbaro show' at what stands; it puts the files beside the card in order.");
+    place_checksum(&owner->folder);
     place(&owner->folder, "card");
     owner->before = owner->card;
     owner->newest = 1;

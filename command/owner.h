@@ -47,7 +47,7 @@ void settle(const struct owner *owner);
 /* Whether settling has something to do. */
 int is_unsettled(const struct owner *owner);
 
-/* Writes card.new and its checksum; puts it in the place of the card before, and settles. store_card does both. */
+/* Prepares the card and its checksum; puts them in the places of those before, and settles. store_card does both. */
 void prepare_card(const struct owner *owner);
 void place_card(struct owner *owner);
 void store_card(struct owner *owner);

@@ -10,7 +10,7 @@
 #include <string.h>
 
 /* Two plots above, and one below that is as wide as both. */
-enum { WIDTH = 1460, HEIGHT = 1020, LEFT = 150, RIGHT = 880, PLOT_WIDTH = 400 };
+enum { WIDTH = 1560, HEIGHT = 1020, LEFT = 150, RIGHT = 930, PLOT_WIDTH = 400 };
 enum { ABOVE = 150, ABOVE_HEIGHT = 380, BELOW = 640, BELOW_HEIGHT = 300 };
 enum { DECADES = 6, IN_A_MILLION = 1000000, FEW_ROWS = 10, MOST_CURVES = 6, POINTS = 60, MOST_TICKS = 6 };
 
@@ -19,6 +19,10 @@ static const char *const colours[MOST_CURVES] = {"#56b4e9", "#0072b2", "#009e73"
 static const char *const planned_colour = "#d55e00";
 
 static const char *const positions_axis = "r, positions that an audit draws (number of rows)";
+
+/* What the file has within its first bytes. */
+enum { NEAR = 512 };
+static const char title[] = "<title>Risk and reading of an audit</title>\n";
 
 /* One curve: the number that it is for, and the last x that it has a value for. Behind that the value is 0. */
 struct curve {
@@ -35,7 +39,7 @@ struct plot {
     const char *title, *axis, *upwards, *legend;
     uint64_t (*value)(const struct numbers *of, uint64_t x, uint64_t number);
     uint64_t first, most, highest, planned_x;
-    const char *planned;
+    const char *planned, *planned_to; /* what is planned, and where it is a range its end */
     int count;
     struct curve curves[MOST_CURVES];
 };
@@ -170,9 +174,13 @@ static void legend(FILE *f, const struct plot *p, int dotted)
     y += 36;
     if (dotted)
         dot(f, x + 13, y - 5);
-    x += dotted ? 34 : 0;
-    words(f, x, y, "", dotted ? "planned:" : "planned, off the scale:");
+    x += 34;
+    words(f, x, y, "", "planned:");
     words(f, x, y + 20, "", p->planned);
+    if (p->planned_to)
+        words(f, x, y + 40, "", text("to %s", p->planned_to));
+    else if (!dotted)
+        words(f, x, y + 40, "", "(off the scale)");
 }
 
 static void plot(FILE *f, const struct plot *p)
@@ -243,7 +251,8 @@ static uint64_t damaged_shown(const struct numbers *of)
 static void chance(FILE *f, const struct numbers *of)
 {
     const uint64_t rows = of->rows, losses[] = {rows / 1000, rows / 200, rows / 100, rows / 20, rows / 10};
-    const uint64_t positions[] = {of->positions / 8, of->positions / 4, of->positions / 2, most_positions(of)};
+    uint64_t positions[MOST_SHOWN];
+    int shown = positions_shown(of, positions);
     const struct plot either = {
         .of = of,
         .top = ABOVE,
@@ -269,7 +278,7 @@ static void chance(FILE *f, const struct numbers *of)
     right.value = by_damaged;
     right.most = damaged_shown(of);
     right.planned_x = of->damaged;
-    choose(&right, of->positions, positions, sizeof positions / sizeof *positions);
+    choose(&right, of->positions, positions, shown);
     plot(f, &left);
     plot(f, &right);
 }
@@ -308,7 +317,8 @@ static void hashes(FILE *f, const struct numbers *of)
         .most = most,
         .highest = highest ? highest : 1,
         .planned_x = of->positions,
-        .planned = least_now == most_now ? grouped(most_now) : text("%s to %s", grouped(least_now), grouped(most_now)),
+        .planned = grouped(least_now),
+        .planned_to = least_now == most_now ? NULL : grouped(most_now),
         .count = same ? 1 : 2,
         .curves = {{MOST, most, same ? "most and least" : "the most", colours[1], 1}, {LEAST, most, "the least", colours[4], 1}},
     };
@@ -321,27 +331,28 @@ static void draw(FILE *f, const struct numbers *of)
             "<svg xmlns=\"http://www.w3.org/2000/svg\" width=\"%d\" height=\"%d\" viewBox=\"0 0 %d %d\" font-family=\"sans-serif\" "
             "font-size=\"15\" style=\"max-width:100%%;height:auto\">\n",
             WIDTH, HEIGHT, WIDTH, HEIGHT);
-    fputs("<title>Risk and reading of an audit</title>\n"
-          "<style>.grid{stroke:#ddd}.frame{fill:none;stroke:#444}.title{font-weight:bold}.head{font-size:24px;font-weight:bold}"
+    fputs(title, f);
+    fputs("<style>.grid{stroke:#ddd}.frame{fill:none;stroke:#444}.title{font-weight:bold}.head{font-size:24px;font-weight:bold}"
           ".dot{fill:#000;stroke:#fff;stroke-width:1.5}</style>\n"
           "<rect width=\"100%\" height=\"100%\" fill=\"#fff\"/>\n",
           f);
     words(f, 40, 44, " class=\"head\"", "Risk and reading of an audit");
     words(f, 40, 72, "",
-          text("Of d = %s rows with n = %s blocks an audit draws r different ones; a loss escapes it where none of the m damaged rows is "
-               "among them.",
-               grouped(of->rows), grouped(of->blocks)));
+          text("d = %s %s with n = %s %s. An audit draws r different rows. A loss escapes it if none of the m damaged rows is drawn.",
+               grouped(of->rows), of->rows == 1 ? "row" : "rows", grouped(of->blocks), of->blocks == 1 ? "block" : "blocks"));
     words(f, 40, 96, "", text("Planned: r = %s, m = %s.", grouped(of->positions), grouped(of->damaged)));
     chance(f, of);
     hashes(f, of);
     fputs("</svg>\n", f);
 }
 
-/* Whether bytes are a picture that this program made: it begins as this one does. */
+/* Whether bytes are a picture that this program made: the title stands near their start. */
 static int is_picture(struct bytes bytes)
 {
-    static const char first[] = "<svg xmlns=\"http://www.w3.org/2000/svg\" width=\"1460\" ";
-    return bytes.length >= sizeof first - 1 && !memcmp(bytes.at, first, sizeof first - 1);
+    static const char first[] = "<svg xmlns=";
+    size_t start = bytes.length < NEAR ? bytes.length : NEAR;
+    return start >= sizeof first - 1 && !memcmp(bytes.at, first, sizeof first - 1) &&
+           memmem(bytes.at, start, title, sizeof title - 1);
 }
 
 void write_picture(const struct options *o, const struct numbers *of)

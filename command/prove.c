@@ -30,6 +30,20 @@ static struct held map_held(const char *folder, struct bytes message)
     return held;
 }
 
+/* Refuses a message for another number of blocks than stand, or will stand when a change that is half in
+ * place is there. Where no command has stopped, the files themselves are looked at. */
+static void refuse_other_size(const struct host *host, struct bytes message, const char *path)
+{
+    uint64_t n = number_at(message.at + BLOCKS, 4), bytes = number_at(message.at + BLOCK_BYTES, 2);
+    about(path);
+    int stopped = host->half || is_in(&host->folder, "adding");
+    if (stopped && (n != host->stands.blocks_after || bytes != host->stands.block_bytes))
+        refuse(TURNED_AWAY, "A command was stopped here: run 'legbaro apply' first, with the change that was sent.",
+               "by %s the file has %" PRIu64 " blocks of %" PRIu64 " bytes, and here it has %" PRIu64
+               " of %" PRIu64,
+               input_words(path), n, bytes, host->stands.blocks_after, host->stands.block_bytes);
+}
+
 /* Whether bytes are a reply: its own length is its first field. */
 static int is_reply(struct bytes bytes)
 {
@@ -55,6 +69,8 @@ int run_prove(const struct options *o)
     struct output out = check_output(o, o->out, "reply", is_reply);
     struct host host = open_host(o->folder, 0, 0);
     refuse_other_file(&host, message.at + ID, o->words[0]);
+    refuse_other_size(&host, message, o->words[0]);
+    complete(&host);
     struct held held = map_held(o->folder, message);
     uint64_t result = legbaro_prove(LENT(message), LENT(held.blocks), LENT(held.marks),
                                     LENT(held.table), LENT(reply), LENT(totals));

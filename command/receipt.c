@@ -14,7 +14,7 @@ static const char magic[] = "receipt\n";
 /* Where a receipt has what, after the magic. */
 enum { VERSION = 8, ID = 9, COUNTER = 17, KNOWN = 25, CHECKSUM = 26, OWN_CHECKSUM = 30 };
 
-int prepare_receipt(const struct folder *folder, struct bytes card)
+int prepare_receipt(const struct folder *folder, struct bytes card, uint64_t counter)
 {
     const char *path = path_in(folder->path, "change");
     uint8_t receipt[RECEIPT_BYTES] = {0};
@@ -22,11 +22,11 @@ int prepare_receipt(const struct folder *folder, struct bytes card)
     struct change change;
     uint32_t checksum = 0;
     int known = is_in(folder, "change") && peek_change(path, &change) &&
-                change.counter == pending(card) && peek_checksum(path, &checksum);
+                change.counter == counter && peek_checksum(path, &checksum);
     memcpy(receipt, magic, MAGIC_BYTES);
     memcpy(receipt + ID, card.at + LEGBARO_CARD_ID, LEGBARO_ID_BYTES);
     put_number(receipt + VERSION, 1, RECEIPT_VERSION);
-    put_number(receipt + COUNTER, 8, pending(card));
+    put_number(receipt + COUNTER, 8, counter);
     put_number(receipt + KNOWN, 1, (uint64_t)known);
     put_number(receipt + CHECKSUM, 4, checksum);
     put_number(receipt + OWN_CHECKSUM, 4, checksum_of(0, receipt, OWN_CHECKSUM));

@@ -20,9 +20,9 @@
 
 enum { RECEIPT_BYTES = 34 };
 
-/* Prepares the receipt of the change that is pending by a card, before the card is committed. Returns
- * whether the change is in the folder. */
-int prepare_receipt(const struct folder *folder, struct bytes card);
+/* Prepares the receipt of a card's change at a counter: the pending one, before it is committed, or the
+ * one that stands. Returns whether the change is in the folder. */
+int prepare_receipt(const struct folder *folder, struct bytes card, uint64_t counter);
 
 /* Puts a prepared receipt in its place where the card says that its change stands; another is removed. */
 void settle_receipt(const struct folder *folder, struct bytes card);

@@ -39,6 +39,11 @@ void decided(const char *what_stands)
     stands = what_stands;
 }
 
+int is_decided(void)
+{
+    return stands != NULL;
+}
+
 void say(const char *format, ...)
 {
     va_list values;
@@ -75,16 +80,50 @@ void field_text(const char *name, const char *words)
     fields[place_of(name)].words = words;
 }
 
+/* How many bytes the first character of a text has in UTF-8; 0 where it begins with no character:
+ * with a stray or missing byte, an overlong form, a surrogate, or a number above 10ffff. */
+static int utf8_length(const char *words)
+{
+    const unsigned char *at = (const unsigned char *)words;
+    static const uint32_t least[] = {0, 0, 0x80, 0x800, 0x10000};
+    int length = at[0] < 0x80 ? 1 : at[0] >> 5 == 6 ? 2 : at[0] >> 4 == 14 ? 3 : at[0] >> 3 == 30 ? 4 : 0;
+    uint32_t number = length > 1 ? at[0] & (0x7fu >> length) : at[0];
+    for (int i = 1; i < length; i++) {
+        if (at[i] >> 6 != 2)
+            return 0;
+        number = number << 6 | (at[i] & 0x3fu);
+    }
+    if (!length || number < least[length] || number > 0x10ffff || number >> 11 == 0x1b)
+        return 0;
+    return length;
+}
+
+int plain_length(const char *words)
+{
+    const unsigned char *at = (const unsigned char *)words;
+    int length = utf8_length(words);
+    int control = at[0] < ' ' || at[0] == 0x7f || (at[0] == 0xc2 && at[1] < 0xa0);
+    return control ? 0 : length;
+}
+
+/* JSON is UTF-8: a byte that is no part of a character is the character U+FFFD in its place. */
 static void print_text(const char *words)
 {
     putchar('"');
-    for (const char *at = words; *at; at++)
-        if ((unsigned char)*at < ' ')
-            printf("\\u%04x", (unsigned)*at);
-        else if (*at == '"' || *at == '\\')
-            printf("\\%c", *at);
-        else
-            putchar(*at);
+    for (const char *at = words; *at;) {
+        int length = plain_length(at);
+        if (*at == '"' || *at == '\\')
+            putchar('\\');
+        if (length) {
+            printf("%.*s", length, at);
+        } else if ((length = utf8_length(at))) {
+            printf("\\u%04x", (unsigned)(unsigned char)at[length - 1]);
+        } else {
+            fputs("\\ufffd", stdout);
+            length = 1;
+        }
+        at += length;
+    }
     putchar('"');
 }
 
@@ -142,7 +181,7 @@ static void refuse_in_words(enum status status, const char *next, const char *wh
 
 void refuse(enum status status, const char *next, const char *format, ...)
 {
-    char what[1024];
+    static char what[16384]; /* two paths of any length, and words */
     va_list values;
     va_start(values, format);
     vsnprintf(what, sizeof what, format, values);

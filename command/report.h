@@ -17,11 +17,16 @@ void say(const char *format, ...);
 void field(const char *name, uint64_t number);
 void field_text(const char *name, const char *words);
 
+/* How many bytes the first character of a text has, in UTF-8. Returns 0 where it begins with a control
+ * character, or with no character at all. */
+int plain_length(const char *words);
+
 /* Prints the object where JSON is asked for, and answers the status. */
 int ended(enum status status);
 
 /* What can no longer be undone is told in the place of 'Nothing has changed.' when a file can't be written from now on. */
 void decided(const char *what_stands);
+int is_decided(void);
 
 /* What a refusal is about, a file or an option: the field `about` of the object. */
 void about(const char *file);

@@ -65,7 +65,8 @@ static void read_told(struct set_up *s, const struct options *o)
     needs_number(o->positions, "--positions");
     needs_number(o->tokens, "--tokens");
     if (strlen(o->id) > LEGBARO_ID_BYTES)
-        refuse(WRONG_USE, "Take a name of 1 to 8 letters.", "--id: '%s' has %zu letters", o->id, strlen(o->id));
+        refuse(WRONG_USE, "Choose an id of 1 to 8 bytes; a letter outside ASCII has 2 to 4.", "--id: '%s' has %zu bytes", o->id,
+               strlen(o->id));
     memcpy(s->id, o->id, strlen(o->id));
 }
 
@@ -108,6 +109,8 @@ static void store_all(const struct folder *folder, const struct set_up *s)
     refuse_second(folder, s);
     prepare(folder, "change", 0600, change_pieces(&change), CHANGE_PIECES);
     prepare_card(&owner);
+    decided("No file is set up: mend what is wrong, and run the command again.");
+    place_checksum(folder);
     list_id(key_path(s->o), s->id);
     place_card(&owner);
 }
@@ -134,12 +137,12 @@ int run_set_up(const struct options *o)
     if (result != LEGBARO_OK)
         turn_away(result, o->words[0]);
     store_all(&folder, &s);
-    field_text("id", o->id);
+    field_text("id", id_words(s.id));
     field("blocks", s.count);
     field_text("file", path_in(o->folder, "change"));
     say("%s is set up: %" PRIu64 " block%s of %" PRIu64 " bytes in %" PRIu64 " rows, %" PRIu64 " tokens of %" PRIu64
         " positions, version %" PRIu64,
-        o->id, s.count, s.count == 1 ? "" : "s", o->block_bytes, o->rows, o->tokens, o->positions, o->version);
+        id_words(s.id), s.count, s.count == 1 ? "" : "s", o->block_bytes, o->rows, o->tokens, o->positions, o->version);
     tell_audit(s.card);
     tell_totals(s.totals);
     say("next: send %s to the host, who runs 'legbaro apply change'", path_in(o->folder, "change"));

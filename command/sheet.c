@@ -47,7 +47,7 @@ static void print_numbers(const struct numbers *of)
 
 static void line(const char *what, const char *value)
 {
-    say("    %-40s %22s", what, value);
+    say("    %-38s %32s", what, value);
 }
 
 static void line_range(const char *what, uint64_t least, uint64_t most)
@@ -76,29 +76,19 @@ static void print_sheet(const struct numbers *of, const struct sheet *sheet)
     line("the same in units of 2^-32", grouped(sheet->escape));
 }
 
-/* The numbers of a list, which rise, without those that are 0 or come up again, up to a most; answers how many are left. */
-static int sifted(uint64_t *list, int count, uint64_t most)
-{
-    int left = 0;
-    for (int i = 0; i < count; i++)
-        if (list[i] && list[i] <= most && (!left || list[i] > list[left - 1]))
-            list[left++] = list[i];
-    return left;
-}
-
-/* Other positions across and other losses down, the planned ones among them. */
+/* Other positions across and other losses down, the planned ones among them. Six columns fit a
+ * terminal of 80. */
 static void print_risks(const struct numbers *of)
 {
-    uint64_t r = of->positions, m = of->damaged ? of->damaged : of->rows / 100;
-    uint64_t across[] = {r / 8, r / 4, r / 2, r, most_positions(of)};
+    uint64_t m = of->damaged ? of->damaged : of->rows < 100 ? 1 : of->rows / 100, across[MOST_SHOWN];
     uint64_t down[] = {1, m / 8, m / 4, m / 2, m, 2 * m, 4 * m, 8 * m};
-    int columns = sifted(across, sizeof across / sizeof *across, most_positions(of));
+    int columns = positions_shown(of, across);
     int lines = sifted(down, sizeof down / sizeof *down, of->rows);
-    say("\n  Chance that a loss escapes one audit, at most: damaged rows down, positions across\n");
+    say("\n  Chance of escape in one audit, at most: damaged rows down, positions across\n");
     for (int i = -1; i < lines; i++) {
         const char *words = text("    %9s", i < 0 ? "" : grouped(down[i]));
         for (int k = 0; k < columns; k++)
-            words = text("%s %12s", words, i < 0 ? grouped(across[k]) : percent(escape_of(of, across[k], down[i])));
+            words = text("%s %10s", words, i < 0 ? grouped(across[k]) : percent(escape_of(of, across[k], down[i])));
         say("%s", words);
     }
 }
@@ -127,6 +117,24 @@ int run_sheet(const struct options *o)
     return ended(DONE);
 }
 
+/* Refuses a number that is not 1 to a most. */
+static void limit(const char *option, uint64_t number, uint64_t most, const char *why)
+{
+    if (number < 1 || number > most)
+        refuse(TURNED_AWAY, code_next(LEGBARO_OUT_OF_LIMITS), "%s is %" PRIu64 ", and may be 1 to %" PRIu64 "%s (code %d)",
+               option, number, most, why, LEGBARO_OUT_OF_LIMITS);
+}
+
+static void refuse_positions(const struct options *o)
+{
+    field("code", LEGBARO_OUT_OF_LIMITS);
+    limit("--rows", o->rows, LEGBARO_MOST_ROWS, "");
+    limit("--blocks", o->blocks, o->rows, ", the rows");
+    if (o->blocks < LEGBARO_MOST_POSITIONS)
+        limit("--positions", o->positions, o->blocks, ", the blocks");
+    limit("--positions", o->positions, LEGBARO_MOST_POSITIONS, "");
+}
+
 int run_positions(const struct options *o)
 {
     needs_number(o->positions, "--positions, how many of the blocks an audit is to look at,");
@@ -134,16 +142,12 @@ int run_positions(const struct options *o)
     needs_number(o->blocks, "--blocks, the blocks that there are,");
     uint64_t result = legbaro_positions(o->positions, o->rows, o->blocks), number = LEGBARO_NUMBER(result);
     if (LEGBARO_CODE(result) == LEGBARO_OUT_OF_LIMITS)
-        refuse(TURNED_AWAY, code_next(LEGBARO_OUT_OF_LIMITS),
-               "--positions %" PRIu64 " may be 1 to 512 and to the blocks, --blocks %" PRIu64 " 1 to the rows, --rows %" PRIu64
-               " 1 to %d (code %d)",
-               o->positions, o->blocks, o->rows, LEGBARO_MOST_ROWS, LEGBARO_OUT_OF_LIMITS);
+        refuse_positions(o);
     if (LEGBARO_CODE(result) != LEGBARO_OK)
         turn_away(result, text("--positions %" PRIu64 " of --blocks %" PRIu64 ", --rows %" PRIu64, o->positions, o->blocks, o->rows));
     field("positions", number);
-    say("%" PRIu64 " positions: of %" PRIu64 " rows so many are drawn, and on the average %" PRIu64 " or more of the %" PRIu64
-        " with a block",
-        number, o->rows, o->positions, o->blocks);
+    say("set up with %s: with %s and %s an audit then looks at %s or more on average", counted(number, "position", "positions"),
+        counted(o->rows, "row", "rows"), counted(o->blocks, "block", "blocks"), counted(o->positions, "block", "blocks"));
     say("next: 'legbaro set-up --positions %" PRIu64 " --rows %" PRIu64 " ..'", number, o->rows);
     return ended(DONE);
 }
