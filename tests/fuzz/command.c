@@ -25,10 +25,8 @@ int legbaro_main(int count, char **given);
 
 enum { MOST_INPUT = 1 << 16, MOST_WORDS = 24, LAST_STATUS = 4, REFUSED = 2 };
 
-/* How the bytes become the file: as they are, or with a right CRC-32 in the last four. GOES_ON is
- * SUMMED for a host's folder in which a command was stopped: the next one goes on with the change
- * before it refuses anything. */
-enum how { AS_IS, SUMMED, GOES_ON };
+/* How the bytes become the file: as they are, or with a right CRC-32 in the last four. */
+enum how { AS_IS, SUMMED };
 
 /* Without a file the bytes are the words, each up to a line's end. The letter that tests/fuzz/seeds
  * knows a line by is its place in the table, from 'A' on. */
@@ -45,30 +43,36 @@ static const struct line {
     {"owner/key.ids",
      "-C other set-up --key owner/key --id b --block-bytes 16 --rows 4 --positions 2 --tokens 2 "
      "host/blocks",
-     AS_IS},                                                           /* G */
-    {"in", "-C host apply in", AS_IS},                                 /* H */
-    {"in", "-C host apply in", SUMMED},                                /* I */
-    {"in", "-C other apply in", SUMMED},                               /* J */
-    {"in", "-C host apply --check in", SUMMED},                        /* K */
-    {"host/stands", "-C host show", AS_IS},                            /* L */
-    {"host/stands", "-C owner update --host host 3 sample", AS_IS},    /* M */
-    {"host/stands", "-C host prove message", AS_IS},                   /* N */
-    {"host/applying", "-C host show", GOES_ON},                        /* O */
-    {"host/adding", "-C host show", GOES_ON},                          /* P */
-    {"host/table", "-C owner append --host host sample", AS_IS},       /* Q */
-    {"host/blocks", "-C owner delete --host host 2", AS_IS},           /* R */
-    {"host/marks", "-C owner ask update --host host 2 sample", AS_IS}, /* S */
-    {"in", "-C host prove in", AS_IS},                                 /* T */
-    {"in", "-C drawn judge in", AS_IS},                                /* U */
-    {"in", "-C drawn cause --json in", AS_IS},                         /* V */
-    {"in", "-C drawn judge-pool in drawn second", AS_IS},              /* W */
-    {"in", "-C host pool in second/reply", AS_IS},                     /* X */
-    {"in", "-C owner wait --plan in --at 2026-11-23T10:30", AS_IS},    /* Y */
-    {"in", "-C owner draw --plan in --at 2026-11-23T10:30", AS_IS},    /* Z */
-    {"in", "-C owner batch --host host in", AS_IS},                    /* [ */
-    {"in", "-C host apply --committed in asked", SUMMED},              /* \ */
-    {"drawn/message", "-C drawn show", AS_IS},                         /* ] */
-    {"owner/change", "-C owner show --json", SUMMED},                  /* ^ */
+     AS_IS},                                                                      /* G */
+    {"in", "-C host apply in", AS_IS},                                            /* H */
+    {"in", "-C host apply in", SUMMED},                                           /* I */
+    {"in", "-C other apply in", SUMMED},                                          /* J */
+    {"in", "-C host apply --check in", SUMMED},                                   /* K */
+    {"host/stands", "-C host show", AS_IS},                                       /* L */
+    {"host/stands", "-C owner update --host host 3 sample", AS_IS},               /* M */
+    {"host/stands", "-C host prove message", AS_IS},                              /* N */
+    {"host/applying", "-C host show", SUMMED},                                    /* O */
+    {"host/adding", "-C host show", AS_IS},                                       /* P */
+    {"host/table", "-C owner append --host host sample", AS_IS},                  /* Q */
+    {"host/blocks", "-C owner delete --host host 2", AS_IS},                      /* R */
+    {"host/marks", "-C owner ask update --host host 2 sample", AS_IS},            /* S */
+    {"in", "-C host prove in", AS_IS},                                            /* T */
+    {"in", "-C drawn judge in", AS_IS},                                           /* U */
+    {"in", "-C drawn cause --json in", AS_IS},                                    /* V */
+    {"in", "-C drawn judge-pool in drawn second", AS_IS},                         /* W */
+    {"in", "-C host pool in second/reply", AS_IS},                                /* X */
+    {"in", "-C owner wait --plan in --at 2026-11-23T10:30", AS_IS},               /* Y */
+    {"in", "-C owner draw --plan in --at 2026-11-23T10:30", AS_IS},               /* Z */
+    {"in", "-C owner batch --host host in", AS_IS},                               /* [ */
+    {"in", "-C host apply --committed in asked", SUMMED},                         /* \ */
+    {"drawn/message", "-C drawn show", AS_IS},                                    /* ] */
+    {"owner/change", "-C owner show --json", SUMMED},                             /* ^ */
+    {"host/applying", "-C host prove message", SUMMED},                           /* _ */
+    {"host/applying", "-C host apply asked", SUMMED},                             /* ` */
+    {"host/adding", "-C host apply asked", AS_IS},                                /* a */
+    {"in", "parity check --block-bytes 16 --data 3 --parity 2 in parity", AS_IS}, /* b */
+    {"in", "parity rebuild --block-bytes 16 --data 3 --parity 2 --lost 2 --out out host/blocks in",
+     AS_IS}, /* c */
 };
 
 enum { LINES = sizeof lines / sizeof *lines, FIRST_LETTER = 'A' };
@@ -186,7 +190,7 @@ static void look(int status, void *nothing)
         fprintf(stderr, "fuzz: exit status %d\n", status);
         abort();
     }
-    if (status >= REFUSED && line->how != GOES_ON && sum_in(place, "work", 0) != before) {
+    if (status >= REFUSED && sum_in(place, "work", 0) != before) {
         fputs("fuzz: a refused command has changed a file\n", stderr);
         abort();
     }
