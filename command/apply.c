@@ -9,8 +9,8 @@
 #include <inttypes.h>
 #include <string.h>
 
-/* Refuses a file of the host that is not as long as what stands. Where a damaged `applying` was being
- * put in place, it may be longer. */
+/* Refuses a file of the host that is not as long as what stands. Where a damaged `applying` was
+ * being put in place, it may be longer. */
 static void refuse_size(const struct host *host, const char *name, uint64_t length)
 {
     static const char *const lost =
@@ -61,8 +61,10 @@ static void tell_stands(const struct change *c)
 static int go_on(const struct options *o)
 {
     if (o->committed || o->check)
-        refuse(WRONG_USE, "Write 'legbaro apply --check CHANGE' or 'legbaro apply --committed RECEIPT CHANGE'.",
-               "the change that %s is about is missing", o->check ? "--check" : "--committed");
+        refuse(
+            WRONG_USE,
+            "Write 'legbaro apply --check CHANGE' or 'legbaro apply --committed RECEIPT CHANGE'.",
+            "the change that %s is about is missing", o->check ? "--check" : "--committed");
     struct host host = open_host(o->folder, 0, 0);
     int half = host.half;
     complete(&host);
@@ -81,7 +83,7 @@ static int go_on(const struct options *o)
 static int tell_in_place(const struct options *o, struct host *host, const struct change *c,
                          const char *path)
 {
-    if (host->damaged)
+    if (host->damaged && differs(host, c))
         refuse_damaged(host);
     if (is_being_put(host, c)) {
         if (o->check) {
@@ -105,6 +107,8 @@ static int tell_in_place(const struct options *o, struct host *host, const struc
                "has changed.",
                "%s is the change in place by its table, and %s has other %s than it brought", path,
                path_in(host->folder.path, other), other);
+    if (host->damaged && !o->check)
+        set_aside_damaged(host);
     if (!o->check)
         complete(host);
     say("the change is in place already: file %s has %" PRIu64 " blocks at counter %" PRIu64,
@@ -129,13 +133,18 @@ static void needs_receipt(const struct options *o, const struct change *c, const
     if (!c->asked)
         return;
     if (!o->committed)
-        refuse(TURNED_AWAY,
-               text("Tell the owner that it is here whole. The commit makes the file 'committed': with "
-                    "it run 'legbaro apply --committed committed %s'.",
-                    path),
-               "%s is asked, and stands only when the owner has committed it", path);
-    if (!check_receipt(o->committed, c, path))
-        say("warning: %s has no checksum, since the owner no longer had the change: look whether %s is "
+        refuse(
+            TURNED_AWAY,
+            text(
+                "Tell the owner that it is here whole. The commit makes the file 'committed': with "
+                "it run 'legbaro apply --committed committed %s'.",
+                path),
+            "%s is asked, and stands only when the owner has committed it", path);
+    int known = check_receipt(o->committed, c, path);
+    field("checksum_known", (uint64_t)known);
+    if (!known)
+        say("warning: %s has no checksum, since the owner no longer had the change: look whether "
+            "%s is "
             "the one that was sent last",
             input_words(o->committed), path);
 }

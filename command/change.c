@@ -127,11 +127,13 @@ struct change change_of_header(const uint8_t *header)
 static int sound(const struct change *c)
 {
     if (c->version < LEGBARO_WITHOUT_MARKS || c->version > LEGBARO_TWO_STEPS || !c->block_bytes ||
-        c->block_bytes > LEGBARO_MOST_BLOCK_BYTES || !c->tokens || c->tokens > LEGBARO_MOST_TOKENS || c->blocks_after < c->blocks_before ||
+        c->block_bytes > LEGBARO_MOST_BLOCK_BYTES || !c->tokens ||
+        c->tokens > LEGBARO_MOST_TOKENS || c->blocks_after < c->blocks_before ||
         c->blocks_after > LEGBARO_MOST_BLOCKS)
         return 0;
     if (change_adds(c))
-        return c->count == c->blocks_after - c->blocks_before && (c->blocks_before ? c->counter > c->counter_before : c->counter == 0);
+        return c->count == c->blocks_after - c->blocks_before &&
+               (c->blocks_before ? c->counter > c->counter_before : c->counter == 0);
     return c->count && c->count <= LEGBARO_MOST_ITEMS && c->counter > c->counter_before;
 }
 
@@ -213,8 +215,8 @@ struct change read_change(const char *path)
     c = change_of_header(file.at);
     uint64_t length = find_parts(&c, file.at, 1) + CHECKSUM_BYTES;
     if (file.length != length)
-        refuse(TURNED_AWAY, again, "%s has %zu bytes, and by its header %" PRIu64, path, file.length,
-               length);
+        refuse(TURNED_AWAY, again, "%s has %zu bytes, and by its header %" PRIu64, path,
+               file.length, length);
     if (!is_whole(&c, file))
         refuse(TURNED_AWAY, again, "%s is damaged: its checksum does not fit", path);
     return c;

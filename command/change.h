@@ -7,8 +7,8 @@
  *   table      the table after the change
  *   checksum   4 bytes: CRC-32 of all that comes before, which shows a change that was damaged
  *
- * The host's file `applying` is the same, but without the blocks that are added: they are in `blocks`
- * already. Its checksum is that of its own bytes.
+ * The host's file `applying` is the same, but without the blocks that are added: they are in
+ * `blocks` already. Its checksum is that of its own bytes.
  */
 #ifndef CHANGE_H
 #define CHANGE_H
@@ -31,19 +31,20 @@ struct change {
 /* CRC-32 as IEEE 802.3 has it, of bytes that follow those of a checksum; 0 before the first. */
 uint32_t checksum_of(uint32_t before, const uint8_t *at, size_t length);
 
-/* What stands before a change, by the owner's card: version, id, numbers of the file; the rest is 0 or
- * empty. */
+/* What stands before a change, by the owner's card: version, id, numbers of the file; the rest is 0
+ * or empty. */
 struct change change_from(struct bytes card);
 
 /* Whether blocks of the file come after its last: set-up, append and load. */
 int change_adds(const struct change *change);
 
-/* The pieces of the file, CHANGE_PIECES of them. They are good until the next are asked for. The first
- * is the header; header_piece gives it alone. */
+/* The pieces of the file, CHANGE_PIECES of them. They are good until the next are asked for. The
+ * first is the header; header_piece gives it alone. */
 const struct piece *change_pieces(const struct change *change);
 const struct piece *header_piece(const struct change *change);
 
-/* Reads a header's numbers. Returns whether it is the header of a change, and its numbers go together. */
+/* Reads a header's numbers. Returns whether it is the header of a change, and its numbers go
+ * together. */
 struct change change_of_header(const uint8_t *header);
 int is_header(struct bytes header);
 
@@ -53,9 +54,9 @@ struct change read_change(const char *path);
 /* Reads the host's `applying`; returns whether it is whole. */
 int read_applying(const char *path, struct change *change);
 
-/* Reads the header of a file that may be cut or no change, and nothing else; returns whether it has one.
- * peek_checksum reads the checksum of a change; returns whether the file has the length that its
- * header says. */
+/* Reads the header of a file that may be cut or no change, and nothing else; returns whether it has
+ * one. peek_checksum reads the checksum of a change; returns whether the file has the length that
+ * its header says. */
 int peek_change(const char *path, struct change *change);
 int peek_checksum(const char *path, uint32_t *checksum);
 

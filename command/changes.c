@@ -114,7 +114,7 @@ static void take_old(struct making *m)
             *m->mark.at = mark;
         return;
     }
-    m->old = map_whole(m->o->old, m->change.block_bytes, "a block of this file", "Fetch it from the host again.");
+    m->old = small_whole(m->o->old, m->change.block_bytes, "a block of this file", "Fetch it from the host again.");
     if (m->mark.length) {
         needs_number(m->o->mark, "--mark, live or deleted, beside --old");
         *m->mark.at = m->o->mark > LEGBARO_DELETED ? 255 : (uint8_t)m->o->mark;
@@ -194,7 +194,7 @@ int run_append(const struct options *o)
 {
     struct making m = begin(o, APPEND);
     m.blocks =
-        map_whole(o->words[0], m.change.block_bytes, "a block of this file", "Give a file of one block; 'legbaro load' takes several.");
+        small_whole(o->words[0], m.change.block_bytes, "a block of this file", "Give a file of one block; 'legbaro load' takes several.");
     m.change.blocks_after++;
     return finish(&m);
 }
@@ -211,7 +211,7 @@ int run_load(const struct options *o)
 int run_update(const struct options *o)
 {
     struct making m = begin_with_block(o, UPDATE);
-    m.blocks = map_whole(o->words[1], m.change.block_bytes, "a block of this file", "Give a file of one block.");
+    m.blocks = small_whole(o->words[1], m.change.block_bytes, "a block of this file", "Give a file of one block.");
     m.change.items.at[4] = LEGBARO_LIVE;
     return finish(&m);
 }
@@ -246,14 +246,14 @@ int run_batch(const struct options *o)
 typedef uint64_t ending(uint64_t role, uint8_t *card, size_t length);
 
 /* Ends what is pending by a call on the card. A commit leaves a receipt; a drop leaves none. */
-static int end_pending(const struct options *o, ending *call, const char *done, const char *next)
+static int end_pending(const struct options *o, ending *end, const char *done, const char *next)
 {
     struct bytes none = room(0);
-    refuse_without_right(call(o->role, LENT(none)), o);
+    refuse_without_right(end(o->role, LENT(none)), o);
     struct owner owner = open_owner(o, 0);
     struct bytes card = copy_of(owner.card);
-    uint64_t was = pending(card), result = call(o->role, LENT(owner.card));
-    int commits = call == legbaro_commit, known = 1;
+    uint64_t was = pending(card), result = end(o->role, LENT(owner.card));
+    int commits = end == legbaro_commit, known = 1;
     if (result != LEGBARO_OK)
         turn_away(result, path_in(o->folder, "card"));
     settle(&owner);

@@ -77,7 +77,7 @@ static struct prepared {
     struct prepared *next;
     int folder;
     const char *name;
-} *prepared;
+} * prepared;
 static int placed;
 
 static void note_prepared(const struct folder *folder, const char *name)
@@ -89,7 +89,8 @@ static void note_prepared(const struct folder *folder, const char *name)
     prepared = file;
 }
 
-/* Removes what was prepared, where nothing of it has been placed: the command changes nothing then. */
+/* Removes what was prepared, where nothing of it has been placed: the command changes nothing then.
+ */
 static void undo_prepared(void)
 {
     for (; prepared && !placed; prepared = prepared->next)
@@ -128,7 +129,10 @@ static int make_file(const struct folder *folder, const char *name, mode_t mode)
             file = openat(folder->at, name, how, mode);
     } while (file < 0 && errno == EINTR);
     if (file >= 0 && mode == 0600 && fchmod(file, mode) != 0) {
+        int fault = errno;
+        unlinkat(folder->at, name, 0);
         close(file);
+        errno = fault;
         return -1;
     }
     return file;
@@ -208,6 +212,7 @@ void move_aside(const struct folder *folder, const char *name)
     if (result != 0)
         file_fault("move", path_in(folder->path, name));
     sync_folder(folder);
+    field_text("aside", path_in(folder->path, aside));
     say("%s is moved aside: it is %s now", path_in(folder->path, name),
         path_in(folder->path, aside));
 }

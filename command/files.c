@@ -20,10 +20,11 @@
 /* ---- Memory ---- */
 
 /* What room gave out, one behind the other. */
-static union held {
+union held {
     union held *next;
     long double aligned;
-} *held;
+};
+static union held *held;
 
 static void give_back(void)
 {
@@ -34,17 +35,18 @@ static void give_back(void)
     }
 }
 
-static void no_memory(size_t length)
+static void __attribute__((noreturn)) no_memory(size_t length)
 {
     refuse(BAD_FILE, "Nothing has changed.", "there is no memory for %zu bytes", length);
 }
 
 struct bytes room(size_t length)
 {
-    union held *taken = length < SIZE_MAX - sizeof *taken ? calloc(1, sizeof *taken + length) : NULL;
-    struct bytes bytes = {(uint8_t *)(taken + 1), length};
+    union held *taken =
+        length < SIZE_MAX - sizeof *taken ? calloc(1, sizeof *taken + length) : NULL;
     if (!taken)
         no_memory(length);
+    struct bytes bytes = {(uint8_t *)(taken + 1), length};
     if (!held)
         atexit(give_back);
     taken->next = held;
@@ -54,7 +56,8 @@ struct bytes room(size_t length)
 
 struct bytes shared_room(size_t length)
 {
-    void *at = mmap(NULL, length ? length : 1, PROT_READ | PROT_WRITE, MAP_SHARED | MAP_ANONYMOUS, -1, 0);
+    void *at =
+        mmap(NULL, length ? length : 1, PROT_READ | PROT_WRITE, MAP_SHARED | MAP_ANONYMOUS, -1, 0);
     struct bytes bytes = {at, length};
     if (at == MAP_FAILED)
         no_memory(length);
@@ -95,7 +98,7 @@ static struct seen {
     struct seen *next;
     dev_t device;
     ino_t inode;
-} *seen;
+} * seen;
 
 static void note_read(const struct stat *status)
 {
@@ -208,14 +211,16 @@ struct bytes map_whole(const char *path, uint64_t length, const char *what, cons
     return bytes;
 }
 
-/* Returns up to `most` bytes of a file, a pipe or standard input. Of more, the length alone is right:
- * that of a regular file, and else `most` + 1. */
+/* Returns up to `most` bytes of a file, a pipe or standard input. Of more, the length alone is
+ * right: that of a regular file, and else `most` + 1. */
 static struct bytes read_up_to(const char *path, size_t most)
 {
-    struct stat status = {0};
+    struct stat status = {0}, standard;
     int file = is_standard_input(path) ? STDIN_FILENO : open_input(path, 0, &status);
     struct bytes bytes = room(most + 1);
     size_t done = 0;
+    if (file == STDIN_FILENO && fstat(file, &standard) == 0)
+        note_read(&standard);
     if (S_ISREG(status.st_mode) && (uint64_t)status.st_size > most) {
         bytes.length = (size_t)status.st_size;
         close(file);
@@ -299,7 +304,8 @@ void refuse_link(const struct folder *folder, const char *name)
         return;
     about(path);
     refuse(TURNED_AWAY,
-           "A command would replace the link, and the file that it names would stay the older one. Put "
+           "A command would replace the link, and the file that it names would stay the older one. "
+           "Put "
            "the file itself into the folder; the folder may be a link. Nothing has changed.",
            "%s is a symbolic link", path);
 }

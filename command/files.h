@@ -1,5 +1,5 @@
-/* Bytes in memory and in files. What can't be done with a file ends the program with status BAD_FILE:
- * report.h. */
+/* Bytes in memory and in files. What can't be done with a file ends the program with status
+ * BAD_FILE: report.h. */
 #ifndef FILES_H
 #define FILES_H
 
@@ -21,7 +21,7 @@ struct bytes room(size_t length);
 struct bytes shared_room(size_t length);
 
 /* A text as printf writes it, freed when the program ends. */
-char *text(const char *format, ...);
+char *text(const char *format, ...) __attribute__((format(printf, 1, 2)));
 
 /* A number of so many bytes, big-endian: read, and written. */
 uint64_t number_at(const uint8_t *at, unsigned width);
@@ -29,8 +29,8 @@ void put_number(uint8_t *at, unsigned width, uint64_t number);
 
 /* ---- Reading ---- */
 
-/* The bytes of a regular file, mapped, to be read only. Anything else, a pipe too, is refused at once.
- * map_whole refuses a file of another length with what to do next. */
+/* The bytes of a regular file, mapped, to be read only. Anything else, a pipe too, is refused at
+ * once. map_whole refuses a file of another length with what to do next. */
 struct bytes map_file(const char *path);
 struct bytes map_whole(const char *path, uint64_t length, const char *what, const char *next);
 
@@ -64,8 +64,9 @@ struct folder {
     int at;
 };
 
-/* Opens a folder and locks it until the program ends. Refused where another command is at work there,
- * and where a file that commands replace is a symbolic link. With `make` a missing folder is made. */
+/* Opens a folder and locks it until the program ends. Refused where another command is at work
+ * there, and where a file that commands replace is a symbolic link. With `make` a missing folder is
+ * made. */
 struct folder lock_folder(const char *path, int make);
 
 /* Removes the folder that lock_folder has made in this run, where it is empty. */
@@ -86,9 +87,9 @@ struct piece {
     size_t length;
 };
 
-/* Writes NAME.new and waits until it is on the disk. A mode of 0600 is set whatever the umask is, any
- * other is the umask's to narrow. A fault removes it, and what was prepared before unless something
- * was placed since. */
+/* Writes NAME.new and waits until it is on the disk. A mode of 0600 is set whatever the umask is,
+ * any other is the umask's to narrow. A fault removes it, and what was prepared before unless
+ * something was placed since. */
 void prepare(const struct folder *folder, const char *name, mode_t mode, const struct piece *pieces,
              int count);
 
@@ -100,11 +101,12 @@ void take_away(const struct folder *folder, const char *name);
 void store(const struct folder *folder, const char *name, mode_t mode, const struct piece *pieces,
            int count);
 
-/* Renames NAME to NAME.1, or the next number that is free, and says so. For what may be an only copy. */
+/* Renames NAME to NAME.1, or the next number that is free, and says so. For what may be an only
+ * copy. */
 void move_aside(const struct folder *folder, const char *name);
 
-/* Writes bytes into an opened file from an offset on; waits until a file is on the disk; makes it so
- * long. Each returns whether it could; errno says why not. */
+/* Writes bytes into an opened file from an offset on; waits until a file is on the disk; makes it
+ * so long. Each returns whether it could; errno says why not. */
 int write_at(int file, uint64_t offset, const void *bytes, size_t length);
 int sync_file(int file);
 int resize_file(int file, uint64_t length);

@@ -107,8 +107,8 @@ const char *differs(const struct host *host, const struct change *c)
 
 /* ---- The first change ---- */
 
-/* What was here before is the change's own, left by a command that stopped, or someone else's. Returns
- * whether it was here. */
+/* What was here before is the change's own, left by a command that stopped, or someone else's.
+ * Returns whether it was here. */
 static int refuse_others(const struct host *host, const char *name, struct bytes bytes)
 {
     const char *path = path_in(host->folder.path, name);
@@ -153,12 +153,12 @@ static int cut_back(const struct host *host, const char *name, uint64_t width)
 {
     struct stat status;
     uint64_t length = host->stands.blocks_after * width;
+    if (fstatat(host->folder.at, name, &status, 0) != 0)
+        return 0;
+    if ((uint64_t)status.st_size <= length)
+        return 1;
     int file = open_in(host, name);
-    if (fstat(file, &status) != 0)
-        return 0;
-    if ((uint64_t)status.st_size > length && (!resize_file(file, length) || !sync_file(file)))
-        return 0;
-    return close(file) == 0;
+    return resize_file(file, length) && sync_file(file) && close(file) == 0;
 }
 
 /* Where a command stopped while it added blocks, what stands is whole, and says how long `blocks` is.
@@ -174,8 +174,8 @@ static void undo_adding(const struct host *host)
 /* Writes blocks after the last; a fault leaves what stands. */
 static void add_blocks(const struct host *host, const struct change *c)
 {
-    store(&host->folder, "adding", 0666, header_piece(c), 1);
     int file = open_in(host, "blocks");
+    store(&host->folder, "adding", 0666, header_piece(c), 1);
     progress_of("written", c->blocks.length);
     int whole = write_at(file, c->blocks_before * c->block_bytes, LENT(c->blocks)) &&
                 sync_file(file) && close(file) == 0;
@@ -191,8 +191,8 @@ static void add_blocks(const struct host *host, const struct change *c)
 
 /* ---- Further changes ---- */
 
-/* Writes bytes of each block of a change into a file that has so many for each: the blocks themselves,
- * or their marks. */
+/* Writes bytes of each block of a change into a file that has so many for each: the blocks
+ * themselves, or their marks. */
 static void write_each(const struct host *host, const char *name, const struct change *c,
                        struct bytes bytes, uint64_t width)
 {
@@ -203,7 +203,8 @@ static void write_each(const struct host *host, const char *name, const struct c
         uint64_t block = number_at(c->items.at + i * CHANGE_ITEM_BYTES, 4);
         done = write_at(file, (block - 1) * width, bytes.at + i * width, width);
     }
-    done = done && resize_file(file, c->blocks_after * width) && sync_file(file) && close(file) == 0;
+    done =
+        done && resize_file(file, c->blocks_after * width) && sync_file(file) && close(file) == 0;
     must(done, host, name);
 }
 
@@ -223,6 +224,12 @@ static void put_applying(struct host *host, const struct change *c)
         take_away(&host->folder, "adding");
 }
 
+void set_aside_damaged(struct host *host)
+{
+    move_aside(&host->folder, "applying");
+    host->damaged = 0;
+}
+
 void put_in_place(struct host *host, const struct change *change)
 {
     struct change rest = *change;
@@ -231,24 +238,24 @@ void put_in_place(struct host *host, const struct change *change)
         must(cut_back(host, "blocks", change->block_bytes), host, "blocks");
         if (has_marks(change))
             must(cut_back(host, "marks", 1), host, "marks");
-        move_aside(&host->folder, "applying");
-        host->damaged = 0;
+        set_aside_damaged(host);
     }
     if (change_adds(change)) {
         add_blocks(host, change);
         rest.blocks = room(0);
     }
     prepare(&host->folder, "applying", 0666, change_pieces(&rest), CHANGE_PIECES);
-    decided("The change is kept as 'applying'. Mend what is wrong, and run 'legbaro apply' again: it "
-            "goes on from there.");
+    decided(
+        "The change is kept as 'applying'. Mend what is wrong, and run 'legbaro apply' again: it "
+        "goes on from there.");
     place(&host->folder, "applying");
     put_applying(host, &rest);
 }
 
 /* ---- Opening ---- */
 
-/* Whether `applying` is whole, and is what follows what stands or stands already. Blocks that it leaves
- * out are in `blocks`. */
+/* Whether `applying` is whole, and is what follows what stands or stands already. Blocks that it
+ * leaves out are in `blocks`. */
 static int can_go_on(const struct host *host, struct change *c)
 {
     struct stat status;
@@ -265,7 +272,7 @@ static void look_at_applying(struct host *host, int mends)
     struct change c;
     host->damaged = !can_go_on(host, &c);
     host->half = !host->damaged;
-    if (host->damaged && !mends)
+    if (host->damaged && (!mends || !host->begun))
         refuse_damaged(host);
     if (host->half)
         host->stands = host->applying = c;
@@ -307,9 +314,12 @@ void refuse_damaged(const struct host *host)
 {
     const char *path = path_in(host->folder.path, "applying");
     about(path);
+    if (!host->begun)
+        refuse(TURNED_AWAY, "Put 'stands' back from a copy. Nothing has changed.",
+               "%s, a change that is half in place, is there, and 'stands' is missing", path);
     refuse(TURNED_AWAY,
-           "Ask the owner for the change that follows what stands, and run 'legbaro apply' with it: "
-           "the damaged one is moved aside then. Nothing has changed.",
+           "Ask the owner for the change that follows what stands, and run 'legbaro apply' with "
+           "it: the damaged one is moved aside then. Nothing has changed.",
            "%s, a change that is half in place, is damaged or does not follow what stands", path);
 }
 

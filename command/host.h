@@ -1,11 +1,11 @@
 /*
- * The host's folder: `blocks`, `marks` (but in version 1) and `table`, and `stands`, the header of the
- * change that is in place: of which file, with how many blocks, at which counter.
+ * The host's folder: `blocks`, `marks` (but in version 1) and `table`, and `stands`, the header of
+ * the change that is in place: of which file, with how many blocks, at which counter.
  *
- * A further change is put in place in steps, and a crash between two of them leaves the old state or one
- * that the next command completes:
- *   1. Blocks that are added are written after the last. The header of the change is kept as `adding`
- *      meanwhile; where a command stops, the next one cuts `blocks` back to what stands.
+ * A further change is put in place in steps, and a crash between two of them leaves the old state
+ * or one that the next command completes:
+ *   1. Blocks that are added are written after the last. The header of the change is kept as
+ * `adding` meanwhile; where a command stops, the next one cuts `blocks` back to what stands.
  *   2. The rest of the change is kept as `applying`. From here on the next command goes on with it.
  *   3. The blocks that take the place of others, the marks, the table, and last `stands`.
  */
@@ -32,11 +32,14 @@ struct host open_host(const char *path, int make, int mends);
  * when nothing can refuse the command that is not about these files. */
 void complete(struct host *host);
 
+/* Moves a damaged `applying` aside, where what it was to make is in place. */
+void set_aside_damaged(struct host *host);
+
 /* Ends the program where `applying` is damaged. */
 void refuse_damaged(const struct host *host);
 
-/* Ends the program where the folder holds another file than the one with an id, that of a change or a
- * message. */
+/* Ends the program where the folder holds another file than the one with an id, that of a change or
+ * a message. */
 void refuse_other_file(const struct host *host, const uint8_t *id, const char *path);
 
 /* Whether a change follows what stands; whether it has the numbers of the one that stands. */

@@ -85,9 +85,11 @@ static int named(const struct command *command, int count, char **given)
 static int help_with(const struct command *command)
 {
     printf("usage: legbaro %s [-C FOLDER] [--json]", command->name);
-    for (const char *at = command->options; at[1]; at = strchr(at + 1, ' '))
-        printf(" [--%.*s]", (int)strcspn(at + 1, " "), at + 1);
-    printf(" %s\n%s. The manual is legbaro(1).\n", command->words, command->purpose);
+    for (const char *at = command->options; at[1]; at = strchr(at + 1, ' ')) {
+        int length = (int)strcspn(at + 1, " ");
+        printf(" [--%.*s%s]", length, at + 1, option_value(at + 1, length));
+    }
+    printf("%s%s\n%s. The manual is legbaro(1).\n", *command->words ? " " : "", command->words, command->purpose);
     return ended(DONE);
 }
 

@@ -60,6 +60,21 @@ int read_number(const char *digits, uint64_t *number)
     return 1;
 }
 
+const char *option_value(const char *name, int length)
+{
+    static const char *const of_kind[] = {" FILE", " NUMBER", " ROLE", " MARK", ""};
+    static const char *const texts[][2] = {
+        {"host", " FOLDER"}, {"at", " TIME"}, {"id", " ID"}, {"lost", " LIST"}, {"lost-parity", " LIST"}};
+    const char *exact = text("%.*s", length, name);
+    for (size_t i = 0; i < sizeof texts / sizeof *texts; i++)
+        if (!strcmp(exact, texts[i][0]))
+            return texts[i][1];
+    for (size_t i = 0; i < sizeof all / sizeof *all; i++)
+        if (!strcmp(exact, all[i].name))
+            return of_kind[all[i].kind];
+    return "";
+}
+
 /* One of some words, which stand for numbers from first on, or a number. */
 static int read_word(const char *word, const char *const *words, uint64_t first, uint64_t *number)
 {

@@ -30,6 +30,10 @@ struct command {
 /* Reads the arguments behind a command's name. They lie in place of the others then: words first. */
 struct options read_options(const struct command *command, int count, char **given);
 
+/* What an option takes, for a usage line: a blank and a word, or an empty text where it takes nothing.
+ * The name has so many letters. */
+const char *option_value(const char *name, int length);
+
 /* A number of decimal digits alone; answers whether it is one. */
 int read_number(const char *digits, uint64_t *number);
 

@@ -77,7 +77,8 @@ static const char *name_of(const char *path)
 
 /* ---- Checking ---- */
 
-/* Whether a regular file is of the kind that the command makes. An empty one holds nothing to lose. */
+/* Whether a regular file is of the kind that the command makes. An empty one holds nothing to lose.
+ */
 static int is_replaced(const struct output *out, const struct stat *status)
 {
     size_t length = (size_t)status->st_size;
@@ -105,7 +106,8 @@ static void check_regular(const struct output *out, const struct stat *status)
     about(out->path);
     refuse(TURNED_AWAY, "Name another file, or add --force to replace it. Nothing has changed.",
            "there is a file %s, %s", out->path,
-           out->is_kind ? "which is not one that this command makes" : "which is replaced with --force alone");
+           out->is_kind ? "which is not one that this command makes"
+                        : "which is replaced with --force alone");
 }
 
 /* A name that the owner or the host keeps is refused in their folders, whether the file is there or
@@ -120,7 +122,8 @@ static void check_name(const struct output *out)
         return;
     about(out->path);
     refuse(TURNED_AWAY,
-           "Another command is writing it, or has stopped: remove it, or add --force. Nothing has changed.",
+           "Another command is writing it, or has stopped: remove it, or add --force. Nothing has "
+           "changed.",
            "%s.new is in the way", out->path);
 }
 

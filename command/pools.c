@@ -43,7 +43,8 @@ int run_pool(const struct options *o)
     field("files", (uint64_t)o->count);
     field_text("file", out.path);
     say("%d replies are one of %zu bytes", o->count, pooled.length);
-    say("next: send %s to the owner", out.path);
+    if (out.standard < 0)
+        say("next: send %s to the owner", out.path);
     return ended(DONE);
 }
 
@@ -78,10 +79,10 @@ static struct pool open_pool(int count, char **paths)
         if (!in_card(pool.owners[i].card, LEGBARO_CARD_OPEN, 4)) {
             about(path_in(paths[i], "card"));
             field("code", LEGBARO_NONE_OPEN);
-            refuse(
-                TURNED_AWAY,
-                "Draw for each file first. Where a command stopped while a pool was judged, judge the open ones by their single replies.",
-                "%s: no token is drawn (code %d)", path_in(paths[i], "card"), LEGBARO_NONE_OPEN);
+            refuse(TURNED_AWAY,
+                   "Draw for each file first. Where a command stopped while a pool was judged, "
+                   "judge the open ones by their single replies.",
+                   "%s: no token is drawn (code %d)", path_in(paths[i], "card"), LEGBARO_NONE_OPEN);
         }
     }
     return pool;
@@ -150,8 +151,9 @@ int run_judge_pool(const struct options *o)
     struct bytes none = room(0);
     refuse_without_right(legbaro_judge_pool(o->role, LENT(none), LENT(none), LENT(none)), o);
     struct bytes master = read_master(o);
-    struct bytes reply = small_whole(o->words[0], LEGBARO_POOLED_BYTES((uint64_t)o->count - 1), "a reply for so many files",
-                                   "Ask the host to send it again, and name each of its files. No draw is closed.");
+    struct bytes reply = small_whole(
+        o->words[0], LEGBARO_POOLED_BYTES((uint64_t)o->count - 1), "a reply for so many files",
+        "Ask the host to send it again, and name each of its files. No draw is closed.");
     struct pool pool = open_pool(o->count - 1, o->words + 1);
     order(&pool, reply);
     if (!o->close)
@@ -167,7 +169,8 @@ int run_judge_pool(const struct options *o)
     if (status == DONE)
         say("ACCEPTED: the reply fits the tokens drawn for %d files, taken together", pool.count);
     else
-        say("REJECTED: the reply does not fit the tokens drawn for %d files\nnext: draw for each file, and judge single replies to learn "
+        say("REJECTED: the reply does not fit the tokens drawn for %d files\nnext: draw for each "
+            "file, and judge single replies to learn "
             "which it is",
             pool.count);
     ended(status);

@@ -49,7 +49,7 @@ static void stopped(int signal)
 /* While a line is shown, a signal ends it with a word. A signal that is ignored stays ignored. */
 static void begin_line(void)
 {
-    const struct sigaction action = {.sa_handler = stopped, .sa_flags = SA_RESETHAND | SA_NODEFER};
+    const struct sigaction action = {.sa_handler = stopped, .sa_flags = (int)SA_RESETHAND | SA_NODEFER};
     struct sigaction before;
     for (int i = 0; i < SIGNALS; i++)
         if (sigaction(signals[i], NULL, &before) == 0 && before.sa_handler == SIG_DFL)
@@ -125,7 +125,8 @@ void progress_over(void)
 
 /* ---- Tokens ---- */
 
-/* How many records are sealed, of which so many were before: they are sealed one after the other. */
+/* How many records are sealed, of which so many were before: they are sealed one after the other.
+ */
 static uint64_t sealed(const struct watch *watch, uint64_t before)
 {
     uint64_t last = watch->table.length / LEGBARO_RECORD_BYTES, done = before;

@@ -35,8 +35,8 @@ static struct held map_held(const char *folder, struct bytes message)
 static void refuse_other_size(const struct host *host, struct bytes message, const char *path)
 {
     uint64_t n = number_at(message.at + BLOCKS, 4), bytes = number_at(message.at + BLOCK_BYTES, 2);
+    int stopped = host->half || (host->begun && is_in(&host->folder, "adding"));
     about(path);
-    int stopped = host->half || is_in(&host->folder, "adding");
     if (stopped && (n != host->stands.blocks_after || bytes != host->stands.block_bytes))
         refuse(TURNED_AWAY, "A command was stopped here: run 'legbaro apply' first, with the change that was sent.",
                "by %s the file has %" PRIu64 " blocks of %" PRIu64 " bytes, and here it has %" PRIu64
@@ -81,6 +81,7 @@ int run_prove(const struct options *o)
     field_text("file", out.path);
     say("token %" PRIu64 " is answered", number_at(message.at + TOKEN, 4));
     tell_totals(totals);
-    say("next: send %s to the owner", out.path);
+    if (out.standard < 0)
+        say("next: send %s to the owner", out.path);
     return ended(DONE);
 }

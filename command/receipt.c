@@ -46,7 +46,8 @@ void settle_receipt(const struct folder *folder, struct bytes card)
     if (!is_in(folder, "committed.new"))
         return;
     struct bytes receipt = map_file(path_in(folder->path, "committed.new"));
-    if (is_receipt(receipt) && !memcmp(receipt.at + ID, card.at + LEGBARO_CARD_ID, LEGBARO_ID_BYTES) &&
+    if (is_receipt(receipt) &&
+        !memcmp(receipt.at + ID, card.at + LEGBARO_CARD_ID, LEGBARO_ID_BYTES) &&
         number_at(receipt.at + COUNTER, 8) == in_card(card, LEGBARO_CARD_COUNTER, 8))
         place(folder, "committed");
     else
@@ -67,10 +68,12 @@ int check_receipt(const char *path, const struct change *c, const char *change_p
                words, id_words(receipt.at + ID), change_path, id_words(c->id));
     if (number_at(receipt.at + COUNTER, 8) != c->counter)
         refuse(TURNED_AWAY, next,
-               "%s is the receipt of the change at counter %" PRIu64 ", and %s has counter %" PRIu64,
+               "%s is the receipt of the change at counter %" PRIu64
+               ", and %s has counter %" PRIu64,
                words, number_at(receipt.at + COUNTER, 8), change_path, c->counter);
     if (receipt.at[KNOWN] && number_at(receipt.at + CHECKSUM, 4) != c->checksum)
-        refuse(TURNED_AWAY, next, "%s is the receipt of another change than %s: the checksums differ",
-               words, change_path);
+        refuse(TURNED_AWAY, next,
+               "%s is the receipt of another change than %s: the checksums differ", words,
+               change_path);
     return receipt.at[KNOWN];
 }

@@ -162,7 +162,8 @@ int ended(enum status status)
 
 /* ---- Refusals ---- */
 
-static void refuse_in_words(enum status status, const char *next, const char *what)
+static void __attribute__((noreturn))
+refuse_in_words(enum status status, const char *next, const char *what)
 {
     if (json) {
         if (subject)

@@ -11,7 +11,7 @@ enum status { DONE, REJECTED, TURNED_AWAY, WRONG_USE, BAD_FILE };
 void report_as(const char *command, int json);
 
 /* A line for people, on standard output; nothing with JSON. */
-void say(const char *format, ...);
+void say(const char *format, ...) __attribute__((format(printf, 1, 2)));
 
 /* A field of the JSON object; nothing without JSON. The texts are kept until the end. */
 void field(const char *name, uint64_t number);
@@ -32,12 +32,13 @@ int is_decided(void);
 void about(const char *file);
 
 /* Each ends the program. A refusal in words: what was wrong, and what to do next. */
-void refuse(enum status status, const char *next, const char *format, ...);
+void refuse(enum status status, const char *next, const char *format, ...)
+    __attribute__((noreturn, format(printf, 3, 4)));
 
 /* The same for a result of the library that is not 0: its code in words, and what it is about. */
-void turn_away(uint64_t result, const char *file);
+void turn_away(uint64_t result, const char *file) __attribute__((noreturn));
 
 /* A file can't be read or written: what was tried, and why not by errno. */
-void file_fault(const char *tried, const char *path);
+void file_fault(const char *tried, const char *path) __attribute__((noreturn));
 
 #endif

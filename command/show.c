@@ -140,16 +140,18 @@ static int show_size(const struct options *o, const char *name, uint64_t wanted)
 static int show_stands(const struct options *o, const char *path)
 {
     struct change s = change_of_header(map_whole(path, CHANGE_HEADER_BYTES, "the header of a change", "Put it back from a copy.").at);
-    int applying = is_there(o, "applying"), whole = 1;
+    int stopped = is_there(o, "applying") || is_there(o, "adding"), whole = 1;
     say("%s", path);
     show_name(s.id, s.version);
     number("block-bytes", s.block_bytes, "bytes in a block");
     number("blocks", s.blocks_after, "blocks that the host holds");
     number("tokens", s.tokens, "records in the table");
     number("counter", s.counter, "the counter of the change that stands");
-    field("stopped", (uint64_t)applying);
-    if (applying) {
+    field("stopped", (uint64_t)stopped);
+    if (is_there(o, "applying")) {
         say("a command is at work here or was stopped: a change is half in place, and 'legbaro apply' goes on with it");
+    } else if (stopped) {
+        say("a command is at work here or was stopped while it added blocks: what stands is whole, and the next one cuts them back");
     } else {
         whole &= show_size(o, "blocks", s.blocks_after * s.block_bytes);
         whole &= s.version == LEGBARO_WITHOUT_MARKS || show_size(o, "marks", s.blocks_after);

@@ -231,6 +231,8 @@ class World:
             return status, True
         fits = [(host, after) for host, statuses, after in results if status in statuses]
         need(fits, "status", status, "in place of", *sorted(set().union(*(statuses for _, statuses, _ in results))))
+        if status >= 2 and set(HALF) & self.names(f.host_at):
+            return status, False  # what is half in place was left so
         f.hosts = distinct([after if status < 2 else host for host, after in fits])
         if status < 2:
             f.hosts = [host for host in f.hosts if self.host_is(f, host)]

@@ -199,17 +199,20 @@ class Workload:
         if damaged:
             path = self.w.write("sent/change", self.dice.choice((change.file()[:-1], flipped(change.file(), self.dice), b"")))
         stands = change is not None and change.counter <= now.ctr and change == f.owner.change
-        words = self.receipt(f, stands) if change and change.asked and not check else []
+        receipt = self.receipt(f, stands) if change and change.asked and not check else []
 
         def outcome(host):
             if not change or damaged or (not host.header and change.header[4]):
                 return REFUSED, host
             if host.stands == change.stands():
                 return {DONE} | REFUSED if change.asked and not stands or f.damaged else {DONE}, host
-            if not host.follows(change) or (change.asked and not check and not (stands and words)):
+            if not host.follows(change) or (change.asked and not check and not (stands and receipt)):
                 return REFUSED, host
             return {DONE} | (set() if host.header else REFUSED) if check else {DONE}, host if check else host.applied(change)
-        return self.w.host_step(f, ["-C", f.host_at, "apply", *(["--check"] if check else []), *words, path], outcome, self.way())
+        words = ["-C", f.host_at, "apply", *(["--check"] if check else []), *receipt, path]
+        if check and "host" not in self.w.lacks:
+            return self.reads(words, set().union(*(outcome(host)[0] for host in f.hosts)))
+        return self.w.host_step(f, words, outcome, self.way())
 
     def check(self, f):
         return self.apply(f, check=True)
