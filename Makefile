@@ -14,6 +14,7 @@
 # make bench              times the library against the reference implementation and ISA-L; the tables of docs/PERFORMANCE.md
 # make headline           times one great set-up, whole: 11,680 tokens of 512 positions over 4,096 blocks of 4,096 bytes
 # make prove              proves every crate that changed since it was last proved, and runs the programs
+# make shared, packages, dist, reproducible, fuzz   what a release consists of: tools/release.mk
 .PHONY: command demo try-command soak week sheet lib install test compare chosen bench headline prove
 
 PREFIX ?= /usr/local

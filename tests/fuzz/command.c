@@ -3,8 +3,8 @@
  *
  *   command FOLDER < INPUT
  *
- * FOLDER has the folder `state`, which tests/fuzz/seeds makes: owner and host of a small file. It is
- * copied to FOLDER/work, where the command runs. The input's first byte is a line of the table
+ * FOLDER has the folder `state`, which tests/fuzz/seeds makes: owner and host of a small file. It
+ * is copied to FOLDER/work, where the command runs. The input's first byte is a line of the table
  * below: which file the other bytes are, and the words of the command. A sanitizer's report is a
  * fault, and so is an exit status above 4, and a refused command that has changed a file.
  *
