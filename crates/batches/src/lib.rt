@@ -17,7 +17,7 @@ pub fn item_bytes(version: u64, size: u64) -> u64
     requires { ⌜ size ≤ 4096 ⌝ }
     ensures { λ r. ⌜ (r ≡ S.itemSize version size) × (1 ≤ r) ⌝ }
 {
-    5 + size + marks::marks_in(version) + size
+    5 + size + records::marks_in(version) + size
 }
 
 // Where item e begins.
@@ -51,7 +51,7 @@ pub fn mark_of(version: u64, size: u64, items: &[u8], e: u64) -> u8
     requires { ⌜ (size ≤ 4096) × (e < 64) × (e * S.itemSize version size + S.itemSize version size ≤ length (now items)) ⌝ }
     ensures { λ r. ⌜ take (marksIn version) (r ∷ []) ≡ itemIn version size e (now (items .entry)) .mark ⌝ }
 {
-    if marks::marks_in(version) == 0 {
+    if records::marks_in(version) == 0 {
         return 0;
     }
     let a = item_at(version, size, e);
@@ -74,8 +74,8 @@ fn mark_fits(version: u64, size: u64, items: &[u8], e: u64) -> bool
 {
     let a = item_at(version, size, e);
     let b = a + 5 + size as usize;
-    let d = b + marks::marks_in(version) as usize;
-    marks::marks_fit(&items[b..d])
+    let d = b + records::marks_in(version) as usize;
+    records::marks_fit(&items[b..d])
 }
 
 // Whether every one of `count` items is an update or a deletion.

@@ -35,10 +35,10 @@ use Rattle.tokens.proofs.HeadLaws.{live-mark}
 use Rattle.batches.specs.Items.{itemIn}
 use Rattle.batches.proofs.ItemLaws.{marks-few}
 use Rattle.batches.proofs.FoldLaws.{all-each, numberFits, numbers-none, numbers-more}
-use Rattle.items.specs.Items.{numberAt, changeAt, itemsBelow, itemsOf, alone, One, Several, Lent}
-use Rattle.items.specs.declared.Work.{Work}
-use Rattle.items.proofs.ContentLaws.{deleted-mark}
-use Rattle.items.proofs.ListLaws.{items-added, items-listed}
+use Rattle.block_changes.specs.Items.{numberAt, changeAt, itemsBelow, itemsOf, alone, One, Several, Lent}
+use Rattle.block_changes.specs.declared.Work.{Work}
+use Rattle.block_changes.proofs.ContentLaws.{deleted-mark}
+use Rattle.block_changes.proofs.ListLaws.{items-added, items-listed}
 use Rattle.reseals.specs.Resealed.{Shaped}
 use Rattle.changes.specs.declared.Kind.{Kind}
 use Rattle.changes.specs.declared.Kind.the-variants.{Update, Delete, Append, Load, Batch}

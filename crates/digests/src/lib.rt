@@ -15,7 +15,7 @@ ghost use Rattle.scheme.specs.Tokens as T;
 ghost use Rattle.scheme.specs.Totals.{digestTurns, digestHashes, workHashes};
 ghost use Rattle.standard.specs.Standard.{standard};
 ghost use Rattle.digests.specs.Layout.{Lies, Row, Seat, contents, behind, place, hashAt};
-ghost use Rattle.sums.specs.Waiting.{Cut, Sound, held};
+ghost use Rattle.hash_queue.specs.Waiting.{Cut, Sound, held};
 
 // How blocks lie: `count` blocks of `size` bytes in so many rows. The mark of a block has `mark` bytes, none in version 1 and one in the others, and lies
 // `step` bytes behind that of the block before: none where one mark stands for all blocks.
@@ -60,8 +60,8 @@ fn head_length(b: Span) -> usize
 
 // The sum with the hash of the block in a row and a column, at a position. The blocks of the buffer come behind `before` others.
 fn add_block(
-    s: sums::Sum,
-    f: sums::Form,
+    s: hash_queue::Sum,
+    f: hash_queue::Form,
     c: [u8; 32],
     b: Span,
     before: u64,
@@ -73,7 +73,7 @@ fn add_block(
     pad: &[u8],
     p: &mut [u8],
     at: &mut [usize; 16],
-) -> sums::Sum
+) -> hash_queue::Sum
     requires { ⌜ Sound s f (now blocks) (now at) × Cut f (36 + b .mark) (b .size) × Seat b before (row .0) column (now blocks) (now marks) × (j .0 < 2 ^ 32) × (now pad ≡ S.padding (36 + b .mark + b .size)) × (length (now p) ≡ 3072) ⌝ }
     ensures { λ r. ⌜ Sound r f (now (blocks .entry)) (now (at .exit)) × (held r f (now (blocks .entry)) (now (at .exit)) (now (p .exit)) ≡ xors (held s f (now (blocks .entry)) (now (at .entry)) (now (p .entry))) (hashAt c b before (row .0) (j .0) column (now (blocks .entry)) (now (marks .entry)))) ⌝ }
 {
@@ -83,14 +83,14 @@ fn add_block(
     let head = tokens::head_of(c, index, mark);
     let h = head_length(b);
     let a = (e * b.size) as usize;
-    sums::add(s, f, &head[..h], blocks, a, b.size as usize, pad, p, at)
+    hash_queue::add(s, f, &head[..h], blocks, a, b.size as usize, pad, p, at)
 }
 
 // The sum with the blocks of a row at a position, from the newest column back to the column `oldest`: whatever this is, the sum has grown by the xor of
 // exactly that column's hash and all newer ones. The blocks come behind `before` others, and `oldest` is no column that those reach.
 fn add_row(
-    s: sums::Sum,
-    f: sums::Form,
+    s: hash_queue::Sum,
+    f: hash_queue::Form,
     c: [u8; 32],
     b: Span,
     before: u64,
@@ -102,7 +102,7 @@ fn add_row(
     pad: &[u8],
     p: &mut [u8],
     at: &mut [usize; 16],
-) -> sums::Sum
+) -> hash_queue::Sum
     requires { ⌜ Sound s f (now blocks) (now at) × Cut f (36 + b .mark) (b .size) × Lies b (now blocks) (now marks) × Row (b .rows) (row .0) × (j .0 < 2 ^ 32) × (now pad ≡ S.padding (36 + b .mark + b .size)) × (length (now p) ≡ 3072) ⌝ }
     requires { ⌜ (before + b .count ≤ 16777216) × (T.columnsOf (b .rows) before (row .0) ≤ oldest) × (oldest ≤ T.columnsOf (b .rows) (before + b .count) (row .0)) ⌝ }
     ensures { λ r. ⌜ Sound r f (now (blocks .entry)) (now (at .exit)) × (held r f (now (blocks .entry)) (now (at .exit)) (now (p .exit)) ≡ xors (held s f (now (blocks .entry)) (now (at .entry)) (now (p .entry))) (T.rowFrom standard c (b .rows) (row .0) (j .0) (behind before (contents b (now (blocks .entry)) (now (marks .entry)))) oldest)) ⌝ }
@@ -128,7 +128,7 @@ fn grown_in(
     blocks: &[u8],
     marks: &[u8],
     x: [u8; 32],
-    f: sums::Form,
+    f: hash_queue::Form,
     pad: &[u8],
     p: &mut [u8],
 ) -> counts::Worked
@@ -138,7 +138,7 @@ fn grown_in(
 {
     let words = chacha20::key_words(&k);
     let mut at = [0usize; 16];
-    let mut sum = sums::start(x);
+    let mut sum = hash_queue::start(x);
     let mut turns: u64 = 0;
     let mut hashes: u64 = 0;
     let mut drawn: u64 = 0;
@@ -166,7 +166,7 @@ fn grown_in(
         hashes += tokens::columns_of(b.rows, before + b.count, row) - oldest;
         drawn += 1;
     }
-    let digest = sums::settled(sum, f, blocks, &at, p);
+    let digest = hash_queue::settled(sum, f, blocks, &at, p);
     counts::Worked {
         digest,
         turns,
@@ -196,7 +196,7 @@ pub fn grown(
     let padding = sha256::pad(h as u64 + b.size);
     let bytes = padding.bytes;
     let len = padding.len;
-    let f = sums::form_of(h, b.size as usize, len);
+    let f = hash_queue::form_of(h, b.size as usize, len);
     grown_in(
         k,
         c,
@@ -231,7 +231,7 @@ pub fn digest(
     let mut table = [0u16; 8192];
     let entries = permutation::tabulated(words, b.rows, positions, &mut table);
     let none = [0u8; 32];
-    let mut p = [0u8; sums::ROOM];
+    let mut p = [0u8; hash_queue::ROOM];
     grown(
         k,
         c,

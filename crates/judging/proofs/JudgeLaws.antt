@@ -3,28 +3,22 @@
 --   Lent, judge-held                                   what one that is not has
 --   judge-kept, judge-done                             what judge answers and leaves
 --   cause-kept, cause-done                             what cause answers
---   not-open, is-open, open-token                      what the sealed bytes of a record open to
 --   record-head, record-number                         what the record in a reply begins with, and a number in it
 --   not-held, not-equal, all-equal                     the cause that the sealed bytes give
 --   cause-of                                           the cause of a reply from its tests
 use Prim.Native.Nat.{ℕ, _+_, _*_}
 use native.Mathlib.Omega.{arith}
-use mathlib.Core.Path.{_≡_, sym, ap, ap₂, _∙_}
+use mathlib.Core.Path.{_≡_, sym, ap, _∙_}
 use mathlib.Core.Bool.{Bool, true, false, cond, _&&_}
 use mathlib.Core.List.{List, [], _∷_}
-use mathlib.Core.Option.{none, some}
 use borrow.Author.Tests.{eq-eqb, eqb-true}
-use lib.ListN.{length, take, drop, replicate, length-drop}
+use lib.ListN.{length, take, drop, length-drop}
 use lib.Seq.{take-all, drop-drop}
 use lib.Dec.{eqb, ltb}
-use Rattle.octets.specs.Octets.{ofBe, part, put, same}
-use Rattle.octets.proofs.PartLaws.{length-part, put-whole}
-use Rattle.chacha20.specs.ChaCha20.{cipher, keyWords}
-use Rattle.aead.specs.Aead.{opens, opened}
-use Rattle.aead.proofs.Sealing.{opened-part}
+use Rattle.octets.specs.Octets.{ofBe, part, same}
 use Rattle.scheme.specs.Ladder.{first, ifZero}
 use Rattle.scheme.specs.Records as R
-use Rattle.scheme.specs.Records.{headFits, nonceBytes, readCard, cardBytes}
+use Rattle.scheme.specs.Records.{headFits, readCard, cardBytes}
 use Rattle.scheme.specs.Tokens.{keyK}
 use Rattle.scheme.specs.Table.{there, value, bodyIn}
 use Rattle.scheme.specs.Judging as J
@@ -91,41 +85,6 @@ module _ (master card : List ℕ) where
     unfolding causeCode
     cause-done c r z k p =
         p ∙ ap (λ (x : R.Card). 256 * J.causeNumber (J.cause standard master x reply)) k ∙ done _ _ (judgeFault standard master card) n e z
-
--- a record of 63 bytes, from what the calls that open it ensure
-module _ (rec : List ℕ) (long : length rec ≡ 63) (key : List ℕ) (ctr i : ℕ) where
-  abbrev tag-holds : Bool
-  tag-holds = opens (keyWords key) (nonceBytes ctr i) (part 0 15 rec) (part 15 32 rec) (part 47 16 rec)
-
-  abbrev token : List ℕ
-  token = cipher (keyWords key) 1 (nonceBytes ctr i) (part 15 32 rec)
-
-  body-is : bodyIn standard key ctr i rec ≡ cond tag-holds (some token) none
-  unfolding bodyIn
-  body-is =
-      ap (λ (x : List ℕ). opened (keyWords key) (nonceBytes ctr i) (part 0 15 rec) x)
-      (sym (take-all 48 (drop 15 rec) (omega (arith, length-drop 15 rec))))
-      ∙ opened-part (keyWords key) (nonceBytes ctr i) (part 0 15 rec) rec 15 (omega arith)
-
-  module _ (words nonce : List ℕ) (w : words ≡ keyWords key) (v : nonce ≡ nonceBytes ctr i) (holds : Bool)
-      (o : holds ≡ opens words nonce (part 0 15 rec) (part 15 32 rec) (part 47 16 rec)) where
-    tag-is : holds ≡ tag-holds
-    tag-is = o ∙ ap₂ (λ (u n : List ℕ). opens u n (part 0 15 rec) (part 15 32 rec) (part 47 16 rec)) w v
-
-    pub not-open : holds ≡ false → false ≡ there (bodyIn standard key ctr i rec)
-    not-open h = rw (body-is, sym tag-is ∙ h)
-
-    module _ (held : holds ≡ true) (x y : List ℕ) (a : x ≡ put 0 (part 15 32 rec) (replicate 32 0)) (d : y ≡ cipher words 1 nonce x) where
-      copied : x ≡ part 15 32 rec
-      copied = a ∙ put-whole (part 15 32 rec) (replicate 32 0) (length-part 15 32 rec (omega arith))
-
-      pub is-open : true ≡ there (bodyIn standard key ctr i rec)
-      is-open = rw (body-is, sym tag-is ∙ held)
-
-      pub open-token : y ≡ value (bodyIn standard key ctr i rec)
-      open-token =
-          let inside : token ≡ value (bodyIn standard key ctr i rec) = rw (body-is, sym tag-is ∙ held) in
-          d ∙ ap₂ (λ (u n : List ℕ). cipher u 1 n x) w v ∙ ap (cipher (keyWords key) 1 (nonceBytes ctr i)) copied ∙ inside
 
 -- the file and the token that a reply and its record name are the card's
 abbrev names : DC.Card → List ℕ → Bool

@@ -84,18 +84,16 @@ pub fn opened(key: [u8; 32], counter: u64, token: u64, rec: &[u8]) -> Body
     ensures { λ r. ⌜ r .holds ≡ there (bodyIn standard key counter token (now (rec .entry))) ⌝ }
     ensures { λ r. ⌜ (r .holds ≡ true → r .token ≡ value (bodyIn standard key counter token (now (rec .entry)))) ⌝ }
 {
-    let words = chacha20::key_words(&key);
-    let nonce = records::nonce_bytes(counter, counts::Token(token));
-    let mut x = [0u8; 32];
-    let holds = aead::opens_at(words, &nonce, &rec[0..15], rec, 15);
+    let i = counts::Token(token);
+    let holds = seals::tag_holds(key, counter, i, rec);
     if !holds {
+        let none = [0u8; 32];
         return Body {
             holds: false,
-            token: x,
+            token: none,
         };
     }
-    octets::copy(&mut x, 0, &rec[15..47]);
-    chacha20::cipher(words, 1, &nonce, &mut x);
+    let x = seals::token_of(key, counter, i, rec);
     Body {
         holds: true,
         token: x,

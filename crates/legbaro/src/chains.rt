@@ -16,7 +16,7 @@ pub extern "C" fn legbaro_judge_pool(
     ensures { λ r. ⌜ r ≡ under role toPool (poolCode standard (now (master .entry)) (now (cards .entry)) (now (reply .entry))) 22 ⌝ }
     ensures { λ _. ⌜ now (cards .exit) ≡ under role toPool (poolCards standard (now (master .entry)) (now (cards .entry)) (now (reply .entry))) (now (cards .entry)) ⌝ }
 {
-    permitted::judge_pool(role, master, cards, reply)
+    access::judge_pool(role, master, cards, reply)
 }
 
 // Pool, the host's: writes the pooled reply that two to sixteen single replies make, which lie end to end. Codes 1, 2, 23, 1.
@@ -25,5 +25,5 @@ pub extern "C" fn legbaro_pool(replies: &[u8], pooled: &mut [u8]) -> u64
     ensures { λ r. ⌜ r ≡ gatherCode (now (replies .entry)) (now (pooled .entry)) ⌝ }
     ensures { λ _. ⌜ now (pooled .exit) ≡ gatherOut (now (replies .entry)) (now (pooled .entry)) ⌝ }
 {
-    gathers::gather(replies, pooled)
+    pools::gathering::gather(replies, pooled)
 }

@@ -26,7 +26,7 @@ pub extern "C" fn legbaro_ask_update(
     ensures { λ _. ⌜ now (second .exit) ≡ under role toUpdate (S.askSecond standard (now (master .entry)) (now (card .entry)) (now (table .entry)) (now (second .entry)) (update block (now (old .entry)) (now (mark .entry)) (now (new .entry))) (now (totals .entry))) (now (second .entry)) ⌝ }
     ensures { λ _. ⌜ now (totals .exit) ≡ under role toUpdate (S.askTotals standard (now (master .entry)) (now (card .entry)) (now (table .entry)) (now (second .entry)) (update block (now (old .entry)) (now (mark .entry)) (now (new .entry))) (now (totals .entry))) (now (totals .entry)) ⌝ }
 {
-    permitted::ask(
+    access::ask(
         role,
         master,
         card,
@@ -59,7 +59,7 @@ pub extern "C" fn legbaro_ask_delete(
     ensures { λ _. ⌜ now (second .exit) ≡ under role toDelete (S.askSecond standard (now (master .entry)) (now (card .entry)) (now (table .entry)) (now (second .entry)) (delete block (now (old .entry)) (now (mark .entry))) (now (totals .entry))) (now (second .entry)) ⌝ }
     ensures { λ _. ⌜ now (totals .exit) ≡ under role toDelete (S.askTotals standard (now (master .entry)) (now (card .entry)) (now (table .entry)) (now (second .entry)) (delete block (now (old .entry)) (now (mark .entry))) (now (totals .entry))) (now (totals .entry)) ⌝ }
 {
-    permitted::ask(
+    access::ask(
         role,
         master,
         card,
@@ -90,7 +90,7 @@ pub extern "C" fn legbaro_ask_append(
     ensures { λ _. ⌜ now (second .exit) ≡ under role toAppend (S.askSecond standard (now (master .entry)) (now (card .entry)) (now (table .entry)) (now (second .entry)) (append (now (new .entry))) (now (totals .entry))) (now (second .entry)) ⌝ }
     ensures { λ _. ⌜ now (totals .exit) ≡ under role toAppend (S.askTotals standard (now (master .entry)) (now (card .entry)) (now (table .entry)) (now (second .entry)) (append (now (new .entry))) (now (totals .entry))) (now (totals .entry)) ⌝ }
 {
-    permitted::ask(
+    access::ask(
         role,
         master,
         card,
@@ -121,7 +121,7 @@ pub extern "C" fn legbaro_ask_load(
     ensures { λ _. ⌜ now (second .exit) ≡ under role toLoad (S.askSecond standard (now (master .entry)) (now (card .entry)) (now (table .entry)) (now (second .entry)) (load (now (blocks .entry))) (now (totals .entry))) (now (second .entry)) ⌝ }
     ensures { λ _. ⌜ now (totals .exit) ≡ under role toLoad (S.askTotals standard (now (master .entry)) (now (card .entry)) (now (table .entry)) (now (second .entry)) (load (now (blocks .entry))) (now (totals .entry))) (now (totals .entry)) ⌝ }
 {
-    permitted::ask(
+    access::ask(
         role,
         master,
         card,
@@ -152,7 +152,7 @@ pub extern "C" fn legbaro_ask_batch(
     ensures { λ _. ⌜ now (second .exit) ≡ under role toBatch (S.askSecond standard (now (master .entry)) (now (card .entry)) (now (table .entry)) (now (second .entry)) (batch (now (items .entry))) (now (totals .entry))) (now (second .entry)) ⌝ }
     ensures { λ _. ⌜ now (totals .exit) ≡ under role toBatch (S.askTotals standard (now (master .entry)) (now (card .entry)) (now (table .entry)) (now (second .entry)) (batch (now (items .entry))) (now (totals .entry))) (now (totals .entry)) ⌝ }
 {
-    permitted::ask(
+    access::ask(
         role,
         master,
         card,
@@ -174,7 +174,7 @@ pub extern "C" fn legbaro_commit(role: u64, card: &mut [u8]) -> u64
     ensures { λ r. ⌜ r ≡ under role toCommit (S.settleCode (now (card .entry))) 22 ⌝ }
     ensures { λ _. ⌜ now (card .exit) ≡ under role toCommit (S.commitCard (now (card .entry))) (now (card .entry)) ⌝ }
 {
-    permitted::commit(role, card)
+    access::commit(role, card)
 }
 
 // Drop: what was asked for is given up, and the table stays the standing one. The counter that the ask took is not taken again. Codes 22, 1, 2, 3, 19.
@@ -183,5 +183,5 @@ pub extern "C" fn legbaro_drop(role: u64, card: &mut [u8]) -> u64
     ensures { λ r. ⌜ r ≡ under role toDrop (S.settleCode (now (card .entry))) 22 ⌝ }
     ensures { λ _. ⌜ now (card .exit) ≡ under role toDrop (S.dropCard (now (card .entry))) (now (card .entry)) ⌝ }
 {
-    permitted::drop(role, card)
+    access::drop(role, card)
 }

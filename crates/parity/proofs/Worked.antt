@@ -7,10 +7,10 @@ use mathlib.Core.Bool.{_&&_}
 use mathlib.Core.List.{[], _∷_}
 use lib.ListN.{replicate}
 use Rattle.scheme.specs.Ladder.{first}
-use Rattle.field.specs.Field.{plus, modulus, double, bitsTimes, times, sought, inverse}
-use Rattle.field.specs.Mixing.{zipped}
-use Rattle.solving.specs.Solve.{weight, row, reducedOne, reduced, unscaledOne, unscaled, front, solve}
-use Rattle.groups.specs.Group.{madeFrom, made, count, parityByte, named, chosen, sumOf, recovered, encoded}
+use Rattle.gf256.specs.Field.{plus, modulus, double, bitsTimes, times, sought, inverse}
+use Rattle.gf256.specs.Mixing.{zipped}
+use Rattle.cauchy.specs.Solve.{weight, row, reducedOne, reduced, unscaledOne, unscaled, front, solve}
+use Rattle.erasure.specs.Group.{madeFrom, made, count, parityByte, named, chosen, sumOf, recovered, encoded}
 use Rattle.parity.specs.Rebuilt.{rebuiltByte, rebuilt}
 use Rattle.parity.specs.Calls.{namedOnce, encodeCode, encodeParity, rebuildCode, rebuildData}
 

@@ -1,2 +1,3 @@
 pub mod CutLaws
 pub mod PoolLaws
+pub mod GatherLaws

@@ -18,6 +18,8 @@ ghost use Rattle.standard.specs.Standard.{standard};
 ghost use Rattle.cards.specs.Fields.{cardOf};
 ghost use Rattle.pools.specs.Drawn.{drawnChecks};
 
+pub mod gathering;
+
 // What is asked of every card in one pass: whether its numbers are within their limits, and whether a token is open.
 struct Answers {
     fit: bool,

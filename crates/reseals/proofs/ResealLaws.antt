@@ -31,8 +31,8 @@ use Rattle.standard.specs.Standard.{standard}
 use Rattle.tokens.specs.Keyed.{Keyed, tokenKey}
 use Rattle.tokens.specs.declared.Keys.{Keys}
 use Rattle.tokens.proofs.TokenKeys.{draw-key, hash-key}
-use Rattle.items.specs.Items.{numberAt, changeAt, itemsBelow, itemsOf, alone, Lent}
-use Rattle.items.specs.declared.Work.{Work}
+use Rattle.block_changes.specs.Items.{numberAt, changeAt, itemsBelow, itemsOf, alone, Lent}
+use Rattle.block_changes.specs.declared.Work.{Work}
 use Rattle.reseals.specs.Resealed.{resealedUnder, turnsFrom, hashesFrom}
 
 pub under-keyed : {master : List ℕ} {keys : Keys} (c : Card) (work : List (ℕ × Change)) (i : ℕ) (rec : List ℕ) → Keyed master (c .id) keys

@@ -14,8 +14,8 @@ ghost use Rattle.scheme.specs.Totals.{workTurns, workHashes, changeTurns, chang
 ghost use Rattle.standard.specs.Standard.{standard};
 ghost use Rattle.cards.specs.Fields.{cardOf};
 ghost use Rattle.tokens.specs.Keyed.{Keyed, tokenKey};
-ghost use Rattle.items.specs.Items.{itemsOf, alone, Lent};
-ghost use Rattle.works.specs.Runs.{Room};
+ghost use Rattle.block_changes.specs.Items.{itemsOf, alone, Lent};
+ghost use Rattle.token_updates.specs.Runs.{Room};
 ghost use Rattle.reseals.specs.Resealed.{Opens, Shaped, resealedUnder};
 
 // Reseals record i, which opens: its token is opened, changed and sealed in the card's version at the counter behind the last issued. The other records
@@ -23,7 +23,7 @@ ghost use Rattle.reseals.specs.Resealed.{Opens, Shaped, resealedUnder};
 fn reseal_one(
     keys: tokens::Keys,
     c: cards::Card,
-    work: items::Work,
+    work: block_changes::Work,
     old_mark: &[u8],
     old: &[u8],
     new_mark: &[u8],
@@ -47,7 +47,7 @@ fn reseal_one(
     let w = keys.w;
     let z = keys.z;
     let x = seals::token_in(k, c.version, c.counter, i, table);
-    let y = works::worked(
+    let y = token_updates::worked(
         w,
         z,
         i,
@@ -74,7 +74,7 @@ fn reseal_one(
 fn reseal_in(
     keys: tokens::Keys,
     c: cards::Card,
-    work: items::Work,
+    work: block_changes::Work,
     old_mark: &[u8],
     old: &[u8],
     new_mark: &[u8],
@@ -121,7 +121,7 @@ fn reseal_in(
 pub fn reseal(
     keys: tokens::Keys,
     c: cards::Card,
-    work: items::Work,
+    work: block_changes::Work,
     old_mark: &[u8],
     old: &[u8],
     new_mark: &[u8],
@@ -132,7 +132,7 @@ pub fn reseal(
     ensures { λ _. ⌜ ((master : List ℕ) → Keyed master (c .id) keys → now (table .exit) ≡ T.reseal standard master (cardOf c) (itemsOf work (now («old_mark» .entry)) (now (old .entry)) (now («new_mark» .entry)) (now (new .entry))) (c .tokens + 1 - c .next) (c .next) (now (table .entry))) ⌝ }
     ensures { λ r. ⌜ ((master : List ℕ) → Keyed master (c .id) keys → (r .turns ≡ changeTurns standard master (cardOf c) (itemsOf work (now («old_mark» .entry)) (now (old .entry)) (now («new_mark» .entry)) (now (new .entry)))) × (r .hashes ≡ changeHashes standard master (cardOf c) (itemsOf work (now («old_mark» .entry)) (now (old .entry)) (now («new_mark» .entry)) (now (new .entry))))) ⌝ }
 {
-    let one = items::alone(work);
+    let one = block_changes::alone(work);
     if one {
         let mut walks = [0u16; 1];
         let mut starts = [0u64; 1];
@@ -156,7 +156,7 @@ pub fn reseal(
     let mut walks = [0u16; 8192];
     let mut starts = [0u64; 256];
     let mut ends = [0u64; 256];
-    let mut p = [0u8; sums::ROOM];
+    let mut p = [0u8; hash_queue::ROOM];
     reseal_in(
         keys,
         c,

@@ -9,8 +9,8 @@ use mathlib.Core.Path.{_≡_, refl}
 use mathlib.Core.List.{List, [], _∷_, _++_}
 use lib.ListN.{length, set, take, replicate}
 use Rattle.octets.specs.Octets.{le, be, ofLe, ofBe, same, xors}
-use Rattle.hours.specs.Calendar.{leap, monthDays, timeFits, yearDays, daysOfYears, daysOfMonths, dayNumber, weekday}
-use Rattle.hours.specs.Hours.{startOf, endOf, allBelow, planFits, own, over, allowed, allowedAt}
+use Rattle.schedule.specs.Calendar.{leap, monthDays, timeFits, yearDays, daysOfYears, daysOfMonths, dayNumber, weekday}
+use Rattle.schedule.specs.Hours.{startOf, endOf, allBelow, planFits, own, over, allowed, allowedAt}
 use Rattle.scheme.specs.Ladder.{first}
 use Rattle.scheme.specs.Lists.{joined, pieces, recordsFrom, xorBelow}
 use Rattle.scheme.specs.Marks.{versionFits, live, alike}

@@ -9,8 +9,8 @@ use mathlib.Core.Logic.{_≢_, _↔_}
 use mathlib.Core.List.{List, [], _∷_}
 use mathlib.Core.Bool.{false}
 use lib.Dec.{eqb, leb}
-use Rattle.hours.specs.Hours.{waitAt}
-use Rattle.hours.proofs.Theorems.{draw-outside}
+use Rattle.schedule.specs.Hours.{waitAt}
+use Rattle.schedule.proofs.Theorems.{draw-outside}
 use Rattle.scheme.specs.Primitives.{Primitives}
 use Rattle.scheme.specs.Records.{readCard}
 use Rattle.scheme.specs.Calls.{Moment, allowedNow, drawEarly, drawCode}

@@ -115,7 +115,7 @@ fn fill_table(keys: tokens::Keys, c: cards::Card, blocks: &[u8], table: &mut [u8
         rows: c.rows,
         size: c.block_bytes,
         count: c.blocks,
-        mark: marks::marks_in(c.version),
+        mark: records::marks_in(c.version),
         step: 0,
     };
     let mut turns: u64 = 0;

@@ -7,8 +7,8 @@ use lib.ListN.{length}
 use Rattle.octets.specs.Octets.{xors}
 use Rattle.scheme.specs.Tokens.{columnsOf, rowFrom}
 use Rattle.standard.specs.Standard.{standard}
-use Rattle.sums.specs.Waiting.{Sound, held}
-use Rattle.sums.proofs.WaitingLaws.{length-held}
+use Rattle.hash_queue.specs.Waiting.{Sound, held}
+use Rattle.hash_queue.proofs.WaitingLaws.{length-held}
 use Rattle.digests.specs.Layout.{behind, contents}
 use Rattle.digests.proofs.BlockLaws.{seated}
 use Rattle.digests.proofs.TurnLaws.{row-none, column-turn, row-done}

@@ -14,8 +14,8 @@ use Rattle.scheme.specs.Totals.{digestTurns, digestHashes}
 use Rattle.scheme.proofs.TotalLaws.{digest-turns-most, digest-hashes-most}
 use Rattle.scheme.proofs.NewerLaws.{newer}
 use Rattle.standard.specs.Standard.{standard}
-use Rattle.sums.specs.Waiting.{Sound, held}
-use Rattle.sums.proofs.WaitingLaws.{held-all, sound-none}
+use Rattle.hash_queue.specs.Waiting.{Sound, held}
+use Rattle.hash_queue.proofs.WaitingLaws.{held-all, sound-none}
 use Rattle.digests.specs.Layout.{Row}
 use Rattle.digests.proofs.BlockLaws.{row-up}
 use Rattle.digests.proofs.TurnLaws.{all, tabled-under, none-drawn, digest-more, turns-more, hashes-more, all-drawn}

@@ -10,7 +10,7 @@ use Rattle.scheme.proofs.TableLaws.{reseal-end}
 use Rattle.standard.specs.Standard.{standard}
 use Rattle.cards.specs.Fields.{cardOf}
 use Rattle.tokens.specs.Keyed.{Keyed}
-use Rattle.items.specs.Items.{itemsOf}
+use Rattle.block_changes.specs.Items.{itemsOf}
 use Rattle.reseals.specs.Resealed.{turnsFrom, hashesFrom}
 use Rattle.reseals.proofs.ResealLaws.{bad-opens, turn, reseal-more, lent-few, totals-step, totals-end, totals-fit, totals-keyed}
 use Rattle.reseals.proofs.reseal_in.Statement.{statement}

@@ -9,7 +9,7 @@ use Rattle.scheme.specs.Totals.{workTurns, workHashes}
 use Rattle.standard.specs.Standard.{standard}
 use Rattle.cards.specs.Fields.{cardOf}
 use Rattle.tokens.specs.Keyed.{tokenKey}
-use Rattle.items.specs.Items.{itemsOf}
+use Rattle.block_changes.specs.Items.{itemsOf}
 use Rattle.reseals.proofs.ResealLaws.{one-record}
 use Rattle.reseals.proofs.reseal_one.Statement.{statement}
 use Rattle.reseals.proofs.reseal_one.Tie as tie

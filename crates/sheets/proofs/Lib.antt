@@ -1,5 +1,0 @@
-pub mod ChanceLaws
-pub mod RowLaws
-pub mod CallLaws
-pub mod Theorems
-pub mod Worked
