@@ -55,7 +55,7 @@ try-packages: packages
 	@tools/needs debootstrap
 	@tools/try-packages
 
-dist: lib $(OUT)/legbaro-static
+dist: lib shared command $(OUT)/legbaro-static
 	@tools/dist $(OUT)/legbaro-static
 
 # Its bytes are the same whatever CFLAGS and LDFLAGS say.
