@@ -14,9 +14,11 @@
 # make bench              times the library against the reference implementation and ISA-L; the tables of docs/PERFORMANCE.md
 # make headline           times one great set-up, whole: 11,680 tokens of 512 positions over 4,096 blocks of 4,096 bytes
 # make prove              proves every crate that changed since it was last proved, and runs the programs
+# make shared, packages, dist, reproducible, fuzz   what a release consists of: tools/release.mk
 .PHONY: command demo try-command soak week sheet lib install test compare chosen bench headline prove
 
 PREFIX ?= /usr/local
+LIBDIR ?= $(PREFIX)/lib
 CFLAGS ?= -O2
 CPU ?=
 SECONDS ?= 600
@@ -34,7 +36,7 @@ command: $(OUT)/legbaro
 $(OUT)/legbaro: $(wildcard command/*.c command/*.h) $(LIB)/liblegbaro.a $(HEADERS)
 	@tools/needs cc zlib
 	@mkdir -p $(OUT)
-	$(COMPILE) $(filter %.c,$^) -o $@ $(LINK) -lm -l:libz.a
+	$(COMPILE) $(filter %.c,$^) -o $@ $(LDFLAGS) $(LINK) -lm -l:libz.a
 
 demo: $(OUT)/legbaro
 	@command/demo $<
@@ -82,9 +84,9 @@ install: lib command
 	install -D -m 644 command/completion.fish $(DESTDIR)$(PREFIX)/share/fish/vendor_completions.d/legbaro.fish
 	install -D -m 644 -t $(DESTDIR)$(PREFIX)/include $(LIB)/legbaro.h
 	install -D -m 644 -t $(DESTDIR)$(PREFIX)/include/legbaro $(LIB)/legbaro/*.h
-	install -D -m 644 $(LIB)/liblegbaro.a $(DESTDIR)$(PREFIX)/lib/liblegbaro.a
-	install -d $(DESTDIR)$(PREFIX)/lib/pkgconfig
-	sed 's|@PREFIX@|$(abspath $(PREFIX))|' legbaro.pc.in > $(DESTDIR)$(PREFIX)/lib/pkgconfig/legbaro.pc
+	install -D -m 644 $(LIB)/liblegbaro.a $(DESTDIR)$(LIBDIR)/liblegbaro.a
+	install -d $(DESTDIR)$(LIBDIR)/pkgconfig
+	sed 's|@PREFIX@|$(abspath $(PREFIX))|; s|@LIBDIR@|$(abspath $(LIBDIR))|; s|@VERSION@|$(VERSION)|' legbaro.pc.in > $(DESTDIR)$(LIBDIR)/pkgconfig/legbaro.pc
 
 test:
 	@tools/gate
@@ -119,3 +121,6 @@ $(OUT)/bench: $(wildcard bench/*.c bench/*.h) $(SHARED) $(LIB)/liblegbaro.a $(HE
 
 prove:
 	rt check
+
+# The shared library, packages, archives of a release, and fuzzing.
+include tools/release.mk

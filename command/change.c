@@ -129,7 +129,7 @@ static int sound(const struct change *c)
     if (c->version < LEGBARO_WITHOUT_MARKS || c->version > LEGBARO_TWO_STEPS || !c->block_bytes ||
         c->block_bytes > LEGBARO_MOST_BLOCK_BYTES || !c->tokens ||
         c->tokens > LEGBARO_MOST_TOKENS || c->blocks_after < c->blocks_before ||
-        c->blocks_after > LEGBARO_MOST_BLOCKS)
+        c->blocks_after > LEGBARO_MOST_BLOCKS || c->asked > 1 || (c->asked && !c->blocks_before))
         return 0;
     if (change_adds(c))
         return c->count == c->blocks_after - c->blocks_before &&
