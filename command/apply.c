@@ -102,11 +102,12 @@ static int tell_in_place(const struct options *o, struct host *host, const struc
                ", and another table",
                path, c->counter);
     if (other)
-        refuse(TURNED_AWAY,
-               "The host has lost what it was to keep: put the file back from a copy first. Nothing "
-               "has changed.",
-               "%s is the change in place by its table, and %s has other %s than it brought", path,
-               path_in(host->folder.path, other), other);
+        refuse(
+            TURNED_AWAY,
+            "The host has lost what it was to keep: put the file back from a copy first. Nothing "
+            "has changed.",
+            "%s is the change in place by its table, and %s has other %s than it brought", path,
+            path_in(host->folder.path, other), other);
     if (host->damaged && !o->check)
         set_aside_damaged(host);
     if (!o->check)

@@ -27,7 +27,9 @@ static void bad_line(const struct line *line, const char *what)
     if (line->number)
         field("line", line->number);
     field("code", LEGBARO_BAD_BATCH);
-    refuse(TURNED_AWAY, "Lines are 'update NUMBER FILE' or 'delete NUMBER', at most 64, in the order of the blocks.",
+    refuse(TURNED_AWAY,
+           "Lines are 'update NUMBER FILE' or 'delete NUMBER', at most 64, in the order of the "
+           "blocks.",
            "%s: %s (code %d)", where, what, LEGBARO_BAD_BATCH);
 }
 
@@ -53,11 +55,14 @@ static int next_line(struct line *line, struct bytes list, size_t *at)
 }
 
 /* Takes a line's item in. */
-static void add_item(struct batch *b, const struct line *line, uint64_t version, uint64_t block_bytes)
+static void add_item(struct batch *b, const struct line *line, uint64_t version,
+                     uint64_t block_bytes)
 {
     char kind[8], digits[24], file[4096];
-    uint64_t number, before = b->count ? number_at(b->places.at + (b->count - 1) * CHANGE_ITEM_BYTES, 4) : 0;
-    int words = sscanf(line->words, " %7s %23s %4095[^\r]", kind, digits, file), update = words == 3 && !strcmp(kind, "update");
+    uint64_t number,
+        before = b->count ? number_at(b->places.at + (b->count - 1) * CHANGE_ITEM_BYTES, 4) : 0;
+    int words = sscanf(line->words, " %7s %23s %4095[^\r]", kind, digits, file),
+        update = words == 3 && !strcmp(kind, "update");
     if (!update && !(words == 2 && !strcmp(kind, "delete")))
         bad_line(line, "it is neither an update nor a deletion");
     if (!read_number(digits, &number) || number > UINT32_MAX)
@@ -67,13 +72,17 @@ static void add_item(struct batch *b, const struct line *line, uint64_t version,
     if (b->count == LEGBARO_MOST_ITEMS)
         bad_line(line, "it is the 65th line of the batch");
     uint8_t *item = b->items.at + b->count * LEGBARO_ITEM_BYTES(version, block_bytes);
-    uint8_t *place = b->places.at + b->count * CHANGE_ITEM_BYTES, *block = b->blocks.at + b->count * block_bytes;
+    uint8_t *place = b->places.at + b->count * CHANGE_ITEM_BYTES,
+            *block = b->blocks.at + b->count * block_bytes;
     item[LEGBARO_ITEM_KIND] = update ? LEGBARO_ITEM_UPDATE : LEGBARO_ITEM_DELETE;
     put_number(item + LEGBARO_ITEM_BLOCK, 4, number);
     put_number(place, 4, number);
     place[4] = update ? LEGBARO_LIVE : LEGBARO_DELETED;
     if (update) {
-        memcpy(block, small_whole(file, block_bytes, "a block of this file", "Give a file of one block.").at, block_bytes);
+        memcpy(
+            block,
+            small_whole(file, block_bytes, "a block of this file", "Give a file of one block.").at,
+            block_bytes);
         memcpy(item + LEGBARO_ITEM_NEW(version, block_bytes), block, block_bytes);
     }
     b->count++;
@@ -83,7 +92,8 @@ struct batch read_batch(const char *path, uint64_t version, uint64_t block_bytes
 {
     struct bytes list = read_small(path, MOST_TEXT_BYTES, "the list of a batch");
     struct line line = {path, 0, ""};
-    struct batch b = {0, room(LEGBARO_MOST_ITEMS * LEGBARO_ITEM_BYTES(version, block_bytes)), room(LEGBARO_MOST_ITEMS * CHANGE_ITEM_BYTES),
+    struct batch b = {0, room(LEGBARO_MOST_ITEMS * LEGBARO_ITEM_BYTES(version, block_bytes)),
+                      room(LEGBARO_MOST_ITEMS * CHANGE_ITEM_BYTES),
                       room(LEGBARO_MOST_ITEMS * block_bytes)};
     size_t at = 0;
     while (next_line(&line, list, &at))

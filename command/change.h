@@ -60,7 +60,8 @@ int read_applying(const char *path, struct change *change);
 int peek_change(const char *path, struct change *change);
 int peek_checksum(const char *path, uint32_t *checksum);
 
-/* An id in words: its characters in UTF-8, and \xNN for a backslash, a control character and a byte that
+/* An id in words: its characters in UTF-8, and \xNN for a backslash, a control character and a byte
+ * that
  * is no part of a character. Different ids have different words. */
 const char *id_words(const uint8_t *id);
 

@@ -38,7 +38,8 @@ static uint64_t in_one_step(struct making *m)
     case LOAD:
         return legbaro_load(FILE_LENT(m), LENT(m->blocks), LENT(m->totals));
     case UPDATE:
-        return legbaro_update(FILE_LENT(m), m->block, LENT(m->old), LENT(m->mark), LENT(m->blocks), LENT(m->totals));
+        return legbaro_update(FILE_LENT(m), m->block, LENT(m->old), LENT(m->mark), LENT(m->blocks),
+                              LENT(m->totals));
     case DELETE:
         return legbaro_delete(FILE_LENT(m), m->block, LENT(m->old), LENT(m->mark), LENT(m->totals));
     default:
@@ -54,9 +55,11 @@ static uint64_t asked(struct making *m)
     case LOAD:
         return legbaro_ask_load(FILE_LENT(m), LENT(m->second), LENT(m->blocks), LENT(m->totals));
     case UPDATE:
-        return legbaro_ask_update(FILE_LENT(m), LENT(m->second), m->block, LENT(m->old), LENT(m->mark), LENT(m->blocks), LENT(m->totals));
+        return legbaro_ask_update(FILE_LENT(m), LENT(m->second), m->block, LENT(m->old),
+                                  LENT(m->mark), LENT(m->blocks), LENT(m->totals));
     case DELETE:
-        return legbaro_ask_delete(FILE_LENT(m), LENT(m->second), m->block, LENT(m->old), LENT(m->mark), LENT(m->totals));
+        return legbaro_ask_delete(FILE_LENT(m), LENT(m->second), m->block, LENT(m->old),
+                                  LENT(m->mark), LENT(m->totals));
     default:
         return legbaro_ask_batch(FILE_LENT(m), LENT(m->second), LENT(m->items), LENT(m->totals));
     }
@@ -70,11 +73,13 @@ static uint64_t call(void *lent)
 
 /* ---- What a change is lent ---- */
 
-/* Who has no right to a change is told so whatever the files are: the call says it first, here with empty buffers. */
+/* Who has no right to a change is told so whatever the files are: the call says it first, here with
+ * empty buffers. */
 static struct making with_right(const struct options *o, enum kind kind)
 {
     struct bytes none = room(0);
-    struct making m = {kind, o, {.master = none, .card = none}, none, none, none, 0, none, none, none, none, {0}};
+    struct making m = {
+        kind, o, {.master = none, .card = none}, none, none, none, 0, none, none, none, none, {0}};
     refuse_without_right(call(&m), o);
     return m;
 }
@@ -88,8 +93,8 @@ static struct making begin(const struct options *o, enum kind kind)
     if (o->asked && m.change.version != LEGBARO_TWO_STEPS) {
         field("code", LEGBARO_WRONG_HEADER);
         refuse(TURNED_AWAY, "Make the change in one step: the same command without 'ask'.",
-               "%s is of version %" PRIu64 ", which knows no asks (code %d)", path_in(o->folder, "card"), m.change.version,
-               LEGBARO_WRONG_HEADER);
+               "%s is of version %" PRIu64 ", which knows no asks (code %d)",
+               path_in(o->folder, "card"), m.change.version, LEGBARO_WRONG_HEADER);
     }
     check_fetched(o->host, &m.owner);
     m.table = fetch_table(o->host, &m.change);
@@ -114,7 +119,8 @@ static void take_old(struct making *m)
             *m->mark.at = mark;
         return;
     }
-    m->old = small_whole(m->o->old, m->change.block_bytes, "a block of this file", "Fetch it from the host again.");
+    m->old = small_whole(m->o->old, m->change.block_bytes, "a block of this file",
+                         "Fetch it from the host again.");
     if (m->mark.length) {
         needs_number(m->o->mark, "--mark, live or deleted, beside --old");
         *m->mark.at = m->o->mark > LEGBARO_DELETED ? 255 : (uint8_t)m->o->mark;
@@ -125,7 +131,8 @@ static struct making begin_with_block(const struct options *o, enum kind kind)
 {
     uint64_t block;
     if (!read_number(o->words[0], &block))
-        refuse(WRONG_USE, "Blocks are numbered from 1.", "'%s' is not the number of a block", o->words[0]);
+        refuse(WRONG_USE, "Blocks are numbered from 1.", "'%s' is not the number of a block",
+               o->words[0]);
     struct making m = begin(o, kind);
     m.block = block;
     take_old(&m);
@@ -144,14 +151,16 @@ static void tell(const struct making *m)
     field("blocks", m->change.blocks_after);
     field_text("file", path_in(m->o->folder, "change"));
     field("pending", (uint64_t)m->o->asked);
-    say("%s %s: counter %" PRIu64 ", %" PRIu64 " blocks", names[m->kind], m->o->asked ? "asked" : "made", m->change.counter,
-        m->change.blocks_after);
+    say("%s %s: counter %" PRIu64 ", %" PRIu64 " blocks", names[m->kind],
+        m->o->asked ? "asked" : "made", m->change.counter, m->change.blocks_after);
     tell_totals(m->totals);
     if (m->o->asked)
-        say("next: send %s to the host, who runs 'legbaro apply --check change'; then 'legbaro commit', or 'legbaro drop'",
+        say("next: send %s to the host, who runs 'legbaro apply --check change'; then 'legbaro "
+            "commit', or 'legbaro drop'",
             path_in(m->o->folder, "change"));
     else
-        say("next: send %s to the host, who runs 'legbaro apply change'", path_in(m->o->folder, "change"));
+        say("next: send %s to the host, who runs 'legbaro apply change'",
+            path_in(m->o->folder, "change"));
 }
 
 /* What a refusal is about. */
@@ -178,7 +187,8 @@ static int finish(struct making *m)
     struct watch watch = {(int)m->o->progress, m->second, next, last_issued(m->owner.card) + 1};
     uint64_t result = with_progress(call, m, &watch);
     if (LEGBARO_CODE(result) == LEGBARO_BAD_RECORD)
-        refuse_older_record(m->o->host, &m->owner, m->table.at + (LEGBARO_TOKEN(result) - 1) * LEGBARO_RECORD_BYTES);
+        refuse_older_record(m->o->host, &m->owner,
+                            m->table.at + (LEGBARO_TOKEN(result) - 1) * LEGBARO_RECORD_BYTES);
     if (result != LEGBARO_OK)
         turn_away(result, subject(m, LEGBARO_CODE(result)));
     m->change.counter = last_issued(m->owner.card);
@@ -194,8 +204,8 @@ static int finish(struct making *m)
 int run_append(const struct options *o)
 {
     struct making m = begin(o, APPEND);
-    m.blocks =
-        small_whole(o->words[0], m.change.block_bytes, "a block of this file", "Give a file of one block; 'legbaro load' takes several.");
+    m.blocks = small_whole(o->words[0], m.change.block_bytes, "a block of this file",
+                           "Give a file of one block; 'legbaro load' takes several.");
     m.change.blocks_after++;
     return finish(&m);
 }
@@ -212,7 +222,8 @@ int run_load(const struct options *o)
 int run_update(const struct options *o)
 {
     struct making m = begin_with_block(o, UPDATE);
-    m.blocks = small_whole(o->words[1], m.change.block_bytes, "a block of this file", "Give a file of one block.");
+    m.blocks = small_whole(o->words[1], m.change.block_bytes, "a block of this file",
+                           "Give a file of one block.");
     m.change.items.at[4] = LEGBARO_LIVE;
     return finish(&m);
 }
@@ -232,7 +243,8 @@ int run_batch(const struct options *o)
     struct batch batch = read_batch(o->words[0], version, bytes);
     for (uint64_t i = 0; i < batch.count; i++) {
         uint8_t *item = batch.items.at + i * LEGBARO_ITEM_BYTES(version, bytes), none;
-        fetch_block(o->host, &m.change, number_at(item + LEGBARO_ITEM_BLOCK, 4), item + LEGBARO_ITEM_OLD,
+        fetch_block(o->host, &m.change, number_at(item + LEGBARO_ITEM_BLOCK, 4),
+                    item + LEGBARO_ITEM_OLD,
                     version == LEGBARO_WITHOUT_MARKS ? &none : item + LEGBARO_ITEM_MARK(bytes));
     }
     m.items = batch.items;
@@ -268,19 +280,22 @@ static int end_pending(const struct options *o, ending *end, const char *done, c
     say("the change at counter %" PRIu64 " %s: %" PRIu64 " blocks at counter %" PRIu64, was, done,
         in_card(owner.card, LEGBARO_CARD_BLOCKS, 4), in_card(owner.card, LEGBARO_CARD_COUNTER, 8));
     if (!known)
-        say("warning: %s is not there or is damaged. Unless the host has it whole, this file can't be "
+        say("warning: %s is not there or is damaged. Unless the host has it whole, this file can't "
+            "be "
             "changed or audited any more",
             path_in(o->folder, "change"));
     if (known)
         say("next: %s", next);
     else
-        say("next: send %s to the host; if the host has the change, it runs 'legbaro apply --committed "
+        say("next: send %s to the host; if the host has the change, it runs 'legbaro apply "
+            "--committed "
             "committed change'",
             path_in(o->folder, "committed"));
     return ended(DONE);
 }
 
-/* Writes a lost receipt again: that of the change that stands, where its file says that it was asked. */
+/* Writes a lost receipt again: that of the change that stands, where its file says that it was
+ * asked. */
 static int commit_again(const struct options *o, const char *next)
 {
     struct bytes none = room(0);
@@ -292,9 +307,12 @@ static int commit_again(const struct options *o, const char *next)
     if (pending(owner.card))
         turn_away(LEGBARO_CHANGE_PENDING, path_in(o->folder, "card"));
     about(path);
-    if (!is_in(&owner.folder, "change") || !peek_change(path, &change) || change.counter != counter || !change.asked)
-        refuse(TURNED_AWAY, "A receipt is made of the change that was committed last. Put that change back first.",
-               "%s is not there, or was not asked and committed", path);
+    if (!is_in(&owner.folder, "change") || !peek_change(path, &change) ||
+        change.counter != counter || !change.asked)
+        refuse(
+            TURNED_AWAY,
+            "A receipt is made of the change that was committed last. Put that change back first.",
+            "%s is not there, or was not asked and committed", path);
     settle(&owner);
     prepare_receipt(&owner.folder, owner.card, counter);
     place(&owner.folder, "committed");
@@ -306,8 +324,9 @@ static int commit_again(const struct options *o, const char *next)
 
 int run_commit(const struct options *o)
 {
-    const char *next = text("send %s and %s to the host, who runs 'legbaro apply --committed committed change'",
-                            path_in(o->folder, "change"), path_in(o->folder, "committed"));
+    const char *next =
+        text("send %s and %s to the host, who runs 'legbaro apply --committed committed change'",
+             path_in(o->folder, "change"), path_in(o->folder, "committed"));
     return o->again ? commit_again(o, next) : end_pending(o, legbaro_commit, "stands", next);
 }
 

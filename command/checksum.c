@@ -15,16 +15,19 @@ static const char name[] = "card.sum", prepared[] = "card.sum.new";
 
 static const char *digits_of(struct bytes card)
 {
-    return card.length ? text("%08" PRIx32, (uint32_t)crc32_z(0, card.at, card.length)) : "-       ";
+    return card.length ? text("%08" PRIx32, (uint32_t)crc32_z(0, card.at, card.length))
+                       : "-       ";
 }
 
-/* The line of the file; null where there is no file. A file of another length gives a line that fits no card. */
+/* The line of the file; null where there is no file. A file of another length gives a line that
+ * fits no card. */
 static const char *read_line(const struct folder *folder)
 {
     if (!is_in(folder, name))
         return NULL;
     struct bytes file = map_file(path_in(folder->path, name));
-    const char *line = file.length == LINE_BYTES ? text("%.*s", LINE_BYTES, (const char *)file.at) : "";
+    const char *line =
+        file.length == LINE_BYTES ? text("%.*s", LINE_BYTES, (const char *)file.at) : "";
     unmap(file);
     return line;
 }
@@ -46,7 +49,8 @@ enum newest is_newest(const struct folder *folder, struct bytes card)
         return NO_CHECKSUM;
     if (is_first(line, card))
         return NEWEST;
-    if (is_second(line, card) && is_in(folder, "card.new") && is_first(line, map_file(path_in(folder->path, "card.new"))))
+    if (is_second(line, card) && is_in(folder, "card.new") &&
+        is_first(line, map_file(path_in(folder->path, "card.new"))))
         return NEWEST;
     return NOT_NEWEST;
 }

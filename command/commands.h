@@ -1,4 +1,5 @@
-/* The commands. Each reads what it is told, makes one call of the library, and answers the exit status: legbaro(1). */
+/* The commands. Each reads what it is told, makes one call of the library, and answers the exit
+ * status: legbaro(1). */
 #ifndef COMMANDS_H
 #define COMMANDS_H
 
@@ -20,7 +21,8 @@ int run_judge(const struct options *options);
 int run_cause(const struct options *options);
 int run_show(const struct options *options);
 
-/* Of several folders, and of what happened: status.c, log.c, page.c. The list of commands: main.c. */
+/* Of several folders, and of what happened: status.c, log.c, page.c. The list of commands:
+ * main.c. */
 int run_status(const struct options *options);
 int run_log(const struct options *options);
 int run_report(const struct options *options);

@@ -96,7 +96,8 @@ struct piece {
 void prepare(const struct folder *folder, const char *name, mode_t mode, const struct piece *pieces,
              int count);
 
-/* The same, but a fault only removes NAME.new. Returns whether it is written; errno says why not. */
+/* The same, but a fault only removes NAME.new. Returns whether it is written; errno says why
+ * not. */
 int try_prepare(const struct folder *folder, const char *name, mode_t mode,
                 const struct piece *pieces, int count);
 

@@ -174,8 +174,10 @@ static int cut_back(const struct host *host, const char *name, uint64_t width)
     return resize_file(file, length) && sync_file(file) && close(file) == 0;
 }
 
-/* Where a command stopped while it added blocks, what stands is whole, and says how long `blocks` is.
- * A damaged `adding` is undone in the same way: else the blocks after the last would stay for good. */
+/* Where a command stopped while it added blocks, what stands is whole, and says how long `blocks`
+ * is.
+ * A damaged `adding` is undone in the same way: else the blocks after the last would stay for
+ * good. */
 static void undo_adding(const struct host *host)
 {
     if (!is_in(&host->folder, "adding"))
@@ -295,8 +297,9 @@ static void look_at_applying(struct host *host, int mends)
 void complete(struct host *host)
 {
     if (host->half) {
-        decided("A change is half in place, and kept as 'applying'. Mend what is wrong, and run the "
-                "command again: it goes on from there.");
+        decided(
+            "A change is half in place, and kept as 'applying'. Mend what is wrong, and run the "
+            "command again: it goes on from there.");
         put_applying(host, &host->applying);
         decided(NULL);
         host->half = 0;

@@ -17,18 +17,20 @@
 
 struct host {
     struct folder folder;
-    int begun;   /* whether there is a file: the change that stands is known then */
-    int half;    /* whether a change is half in place, by a command that stopped */
-    int damaged; /* whether `applying` is there and can't be gone on with */
+    int begun;            /* whether there is a file: the change that stands is known then */
+    int half;             /* whether a change is half in place, by a command that stopped */
+    int damaged;          /* whether `applying` is there and can't be gone on with */
     struct change stands; /* what stands, or will once `applying` is in place */
     struct change applying;
 };
 
-/* Opens the folder and locks it; writes nothing. An `applying` that is damaged, or does not follow what
+/* Opens the folder and locks it; writes nothing. An `applying` that is damaged, or does not follow
+ * what
  * stands, is refused, or with `mends` only noted. */
 struct host open_host(const char *path, int make, int mends);
 
-/* Puts in place what was being put there when a command stopped, or cuts back what it added. To be called
+/* Puts in place what was being put there when a command stopped, or cuts back what it added. To be
+ * called
  * when nothing can refuse the command that is not about these files. */
 void complete(struct host *host);
 
@@ -49,7 +51,8 @@ int has_its_numbers(const struct host *host, const struct change *change);
 /* Whether a change is the one that is half in place, by its table. */
 int is_being_put(const struct host *host, const struct change *change);
 
-/* Compares a change with the numbers of the one that stands with what is in place. Returns the name of
+/* Compares a change with the numbers of the one that stands with what is in place. Returns the name
+ * of
  * the first file that has something else: "table", "blocks" or "marks"; null where none has. */
 const char *differs(const struct host *host, const struct change *change);
 

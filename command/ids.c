@@ -61,7 +61,8 @@ void lock_ids(const char *key)
 static void store_list(const char *path, const struct piece *pieces, int count)
 {
     const char *slash = strrchr(path, '/');
-    struct folder folder = {slash ? text("%.*s", slash == path ? 1 : (int)(slash - path), path) : ".", -1};
+    struct folder folder = {
+        slash ? text("%.*s", slash == path ? 1 : (int)(slash - path), path) : ".", -1};
     folder.at = open(folder.path, O_RDONLY | O_DIRECTORY | O_CLOEXEC);
     if (folder.at < 0)
         file_fault("open the folder", folder.path);

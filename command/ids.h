@@ -1,8 +1,10 @@
 /*
- * The ids that were set up under a key: KEY.ids beside the key, a line for each id, its eight bytes in hexadecimal digits.
+ * The ids that were set up under a key: KEY.ids beside the key, a line for each id, its eight bytes
+ * in hexadecimal digits.
  *
- * A second set-up of an id under one key would seal other tokens under nonces that were used. An id is listed before its card takes its
- * place, so a set-up that was stopped may find its own id there: checksum.h tells that apart.
+ * A second set-up of an id under one key would seal other tokens under nonces that were used. An id
+ * is listed before its card takes its place, so a set-up that was stopped may find its own id
+ * there: checksum.h tells that apart.
  */
 #ifndef IDS_H
 #define IDS_H

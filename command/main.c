@@ -1,4 +1,5 @@
-/* legbaro: provable data possession of a car park's tick file, for owners and hosts. The manual is legbaro(1). */
+/* legbaro: provable data possession of a car park's tick file, for owners and hosts. The manual is
+ * legbaro(1). */
 #define _GNU_SOURCE
 #include "commands.h"
 #include "files.h"
@@ -21,11 +22,12 @@ enum { MOST_WORDS = 1 << 20 };
 
 static const struct command commands[] = {
     {"key", " ", 0, 0, "", "make the owner's key", run_key},
-    {"set-up", " key id version block-bytes rows positions tokens progress ", 1, 1, "BLOCKS", "make card and table of a new file",
-     run_set_up},
+    {"set-up", " key id version block-bytes rows positions tokens progress ", 1, 1, "BLOCKS",
+     "make card and table of a new file", run_set_up},
     {"append", CHANGES, 1, 1, "BLOCK", "add a block", run_append},
     {"load", CHANGES, 1, 1, "BLOCKS", "add several blocks together", run_load},
-    {"update", CORRECTIONS, 2, 2, "NUMBER BLOCK", "put a block in the place of another", run_update},
+    {"update", CORRECTIONS, 2, 2, "NUMBER BLOCK", "put a block in the place of another",
+     run_update},
     {"delete", CORRECTIONS, 1, 1, "NUMBER", "put zero bytes in the place of a block", run_delete},
     {"batch", CHANGES, 1, 1, "LIST", "several updates and deletions together", run_batch},
     {"ask append", CHANGES, 1, 1, "BLOCK", "ask for an append, then commit or drop it", run_append},
@@ -35,26 +37,36 @@ static const struct command commands[] = {
     {"ask batch", CHANGES, 1, 1, "LIST", "ask for a batch", run_batch},
     {"commit", " role again ", 0, 0, "", "let the change that is pending stand", run_commit},
     {"drop", " role ", 0, 0, "", "give the change that is pending up", run_drop},
-    {"draw", " role key plan at again ", 0, 0, "", "draw a token: the message for the host", run_draw},
+    {"draw", " role key plan at again ", 0, 0, "", "draw a token: the message for the host",
+     run_draw},
     {"wait", " plan at ", 0, 0, "", "how long until the plan allows a draw", run_wait},
     {"cause", " role key ", 1, 1, "REPLY", "why judge would reject a reply", run_cause},
     {"judge", " role key close ", 1, 1, "REPLY", "judge the host's reply", run_judge},
-    {"judge-pool", " role key close ", 3, 17, "REPLY FOLDER..", "judge one reply for several files", run_judge_pool},
+    {"judge-pool", " role key close ", 3, 17, "REPLY FOLDER..", "judge one reply for several files",
+     run_judge_pool},
     {"show", " ", 0, 0, "", "a card, or what stands at the host, in words", run_show},
-    {"status", " every plan at ", 1, MOST_WORDS, "FOLDER..", "which files need attention, and what to do", run_status},
-    {"log", " since audits ", 0, MOST_WORDS, "[JOURNAL..]", "what happened in a folder, newest last", run_log},
-    {"report", " html every plan at force ", 1, MOST_WORDS, "FOLDER..", "a page with the status and history of files", run_report},
-    {"apply", " check committed progress ", 0, 1, "[CHANGE]", "host: put a change in place", run_apply},
+    {"status", " every plan at ", 1, MOST_WORDS, "FOLDER..",
+     "which files need attention, and what to do", run_status},
+    {"log", " since audits ", 0, MOST_WORDS, "[JOURNAL..]",
+     "what happened in a folder, newest last", run_log},
+    {"report", " html every plan at force ", 1, MOST_WORDS, "FOLDER..",
+     "a page with the status and history of files", run_report},
+    {"apply", " check committed progress ", 0, 1, "[CHANGE]", "host: put a change in place",
+     run_apply},
     {"prove", " out force ", 1, 1, "MESSAGE", "host: answer a message", run_prove},
     {"pool", " out force ", 2, 16, "REPLY..", "host: make one reply of several", run_pool},
-    {"positions", " positions rows blocks ", 0, 0, "", "how many positions a file with few blocks needs", run_positions},
-    {"sheet", " block-bytes rows positions tokens blocks damaged svg force ", 0, 0, "", "room, reading, work and risk of a planned file",
-     run_sheet},
-    {"parity encode", " block-bytes data parity out force ", 1, 1, "BLOCKS", "parity blocks for the blocks of a file", run_parity_encode},
-    {"parity check", " block-bytes data parity blocks ", 2, 2, "BLOCKS PARITY", "whether blocks and parity agree", run_parity_check},
-    {"parity rebuild", " block-bytes data parity blocks lost lost-parity out force ", 2, 2, "BLOCKS PARITY", "lost blocks from the others",
-     run_parity_rebuild},
-    {"help", " complete ", 0, MOST_WORDS, "[COMMAND]", "all commands, or the options of one", run_help},
+    {"positions", " positions rows blocks ", 0, 0, "",
+     "how many positions a file with few blocks needs", run_positions},
+    {"sheet", " block-bytes rows positions tokens blocks damaged svg force ", 0, 0, "",
+     "room, reading, work and risk of a planned file", run_sheet},
+    {"parity encode", " block-bytes data parity out force ", 1, 1, "BLOCKS",
+     "parity blocks for the blocks of a file", run_parity_encode},
+    {"parity check", " block-bytes data parity blocks ", 2, 2, "BLOCKS PARITY",
+     "whether blocks and parity agree", run_parity_check},
+    {"parity rebuild", " block-bytes data parity blocks lost lost-parity out force ", 2, 2,
+     "BLOCKS PARITY", "lost blocks from the others", run_parity_rebuild},
+    {"help", " complete ", 0, MOST_WORDS, "[COMMAND]", "all commands, or the options of one",
+     run_help},
 };
 
 static const struct commands all = {commands, sizeof commands / sizeof *commands};
@@ -64,7 +76,8 @@ static const char *const see = "Run 'legbaro help' for the list of commands.";
 /* A file that another program cuts while it is mapped. */
 static void cut(int signal)
 {
-    static const char words[] = "legbaro: a file was cut while it was read.\n  Put it back whole, and run the command again.\n";
+    static const char words[] = "legbaro: a file was cut while it was read.\n  Put it back whole, "
+                                "and run the command again.\n";
     ssize_t written = write(STDERR_FILENO, words, sizeof words - 1);
     (void)signal;
     (void)written;

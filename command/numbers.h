@@ -1,4 +1,5 @@
-/* The numbers of a planned file, the sheet that the library gives for them, and numbers in words. */
+/* The numbers of a planned file, the sheet that the library gives for them, and numbers in
+ * words. */
 #ifndef NUMBERS_H
 #define NUMBERS_H
 
@@ -37,7 +38,8 @@ int sifted(uint64_t *list, int count, uint64_t most);
 /* A number and its noun: "1 block", "2 blocks". */
 const char *counted(uint64_t number, const char *one, const char *several);
 
-/* A number with commas, and a chance in thousandths of a percent, rounded up, so that it is never under the exact one either. */
+/* A number with commas, and a chance in thousandths of a percent, rounded up, so that it is never
+ * under the exact one either. */
 const char *grouped(uint64_t number);
 const char *percent(uint64_t escape);
 

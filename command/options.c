@@ -80,8 +80,12 @@ static int read_word(const char *word, const char *const *words, uint64_t first,
 
 static void read_value(const struct option *option, const char *value, struct options *o)
 {
-    static const char *const roles[] = {"surveyor", "planner", "manager", NULL}, *const marks[] = {"live", "deleted", NULL};
-    static const char *const wanted[] = {"a text", "a number of up to 18 digits", "surveyor, planner or manager", "live or deleted"};
+    static const char *const roles[] = {"surveyor", "planner", "manager", NULL}, *const marks[] = {
+                                                                                     "live",
+                                                                                     "deleted",
+                                                                                     NULL};
+    static const char *const wanted[] = {"a text", "a number of up to 18 digits",
+                                         "surveyor, planner or manager", "live or deleted"};
     void *place = (char *)o + option->at;
     int right = *value != 0;
     switch (option->kind) {
@@ -131,7 +135,8 @@ int takes_next(const char *word)
 }
 
 /* Reads the option at given[i]; answers the place of its last word. */
-static int read_option(const struct command *command, struct options *o, int i, int count, char **given)
+static int read_option(const struct command *command, struct options *o, int i, int count,
+                       char **given)
 {
     const char *word = in_full(given[i]);
     int folder = !strcmp(word, "-C");
@@ -157,9 +162,14 @@ static int read_option(const struct command *command, struct options *o, int i, 
 
 struct options read_options(const struct command *command, int count, char **given)
 {
-    struct options o = {.folder = ".", .role = LEGBARO_PLANNER, .version = LEGBARO_TWO_STEPS, .mark = UNTOLD, .words = given};
+    struct options o = {.folder = ".",
+                        .role = LEGBARO_PLANNER,
+                        .version = LEGBARO_TWO_STEPS,
+                        .mark = UNTOLD,
+                        .words = given};
     int only_words = 0;
-    o.block_bytes = o.rows = o.positions = o.tokens = o.blocks = o.damaged = o.data = o.parity = UNTOLD;
+    o.block_bytes = o.rows = o.positions = o.tokens = o.blocks = o.damaged = o.data = o.parity =
+        UNTOLD;
     o.every = UNTOLD;
     o.asked = !strncmp(command->name, "ask ", 4);
     for (int i = 0; i < count; i++)

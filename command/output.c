@@ -13,9 +13,9 @@
 #include <unistd.h>
 
 /* What the owner or the host keeps, or prepares to. */
-static const char *const kept[] = {"key",    "key.ids", "card",   "card.sum", "change",
-                                   "message", "committed", "blocks", "marks",    "table",
-                                   "stands", "adding", "applying", "plan",   "journal"};
+static const char *const kept[] = {"key",     "key.ids",   "card",     "card.sum", "change",
+                                   "message", "committed", "blocks",   "marks",    "table",
+                                   "stands",  "adding",    "applying", "plan",     "journal"};
 enum { KEPT = sizeof kept / sizeof *kept };
 
 /* ---- What is never written over ---- */

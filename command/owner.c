@@ -49,17 +49,20 @@ static void refuse_other_id(const char *path, const uint8_t *id, struct bytes ca
 {
     about(path);
     refuse(TURNED_AWAY, "One of the two was put here by mistake: put it back where it belongs.",
-           "%s is of file %s, and the card beside it of file %s", path, id_words(id), id_words(card.at + LEGBARO_CARD_ID));
+           "%s is of file %s, and the card beside it of file %s", path, id_words(id),
+           id_words(card.at + LEGBARO_CARD_ID));
 }
 
 /* Whether a file is a change of the card's last counter. */
 static int is_last_change(const char *path, struct bytes card)
 {
     struct change change;
-    return peek_change(path, &change) && same_id(card, change.id) && change.counter == last_issued(card);
+    return peek_change(path, &change) && same_id(card, change.id) &&
+           change.counter == last_issued(card);
 }
 
-/* Refuses a change of another file, and one that the card has not issued: then the card is an older one. */
+/* Refuses a change of another file, and one that the card has not issued: then the card is an older
+ * one. */
 static void check_change(const struct folder *folder, struct bytes card)
 {
     const char *path = path_in(folder->path, "change");
@@ -71,8 +74,11 @@ static void check_change(const struct folder *folder, struct bytes card)
     about(path);
     if (change.counter > last_issued(card) ||
         (change.counter > in_card(card, LEGBARO_CARD_COUNTER, 8) && !change.asked))
-        refuse(TURNED_AWAY, "Put back the newest card. An older one would seal other tokens under counters that were used.",
-               "the card is older than %s: it has issued counter %" PRIu64 " and has counter %" PRIu64 ", and the change has %" PRIu64,
+        refuse(TURNED_AWAY,
+               "Put back the newest card. An older one would seal other tokens under counters that "
+               "were used.",
+               "the card is older than %s: it has issued counter %" PRIu64
+               " and has counter %" PRIu64 ", and the change has %" PRIu64,
                path, last_issued(card), in_card(card, LEGBARO_CARD_COUNTER, 8), change.counter);
 }
 
@@ -103,7 +109,8 @@ static int is_open_message(const struct folder *folder, const char *name, struct
 
 /* ---- Settling ---- */
 
-/* Removes a file that the newest card has no use for. Where the card may be an older one, the file is moved aside. */
+/* Removes a file that the newest card has no use for. Where the card may be an older one, the file
+ * is moved aside. */
 static void let_go(const struct owner *owner, const char *name)
 {
     if (owner->newest)
@@ -124,7 +131,8 @@ static void settle_prepared(const struct owner *owner, const char *name, int kno
 int is_unsettled(const struct owner *owner)
 {
     const struct folder *folder = &owner->folder;
-    return is_in(folder, "card.new") || is_in(folder, "card.sum.new") || is_in(folder, "change.new") || is_in(folder, "message.new") ||
+    return is_in(folder, "card.new") || is_in(folder, "card.sum.new") ||
+           is_in(folder, "change.new") || is_in(folder, "message.new") ||
            is_in(folder, "committed.new") || is_journal_unsettled(folder) ||
            is_dropped_change(folder, owner->before) ||
            (is_in(folder, "message") && !is_open_message(folder, "message", owner->before));
@@ -185,27 +193,35 @@ const char *key_path(const struct options *options)
 struct bytes read_master(const struct options *options)
 {
     const char *path = key_path(options);
-    struct bytes key = map_whole(path, LEGBARO_MASTER_BYTES, "a key", "Put back the key that the file was set up with.");
+    struct bytes key = map_whole(path, LEGBARO_MASTER_BYTES, "a key",
+                                 "Put back the key that the file was set up with.");
     struct stat status;
     if (stat(path, &status) != 0)
         file_fault("read", path);
     if (status.st_mode & (S_IRWXG | S_IRWXO)) {
         about(path);
-        refuse(TURNED_AWAY, text("If nobody has read it, run 'chmod 600 %s'. Else set up anew under another key.", path),
-               "others can read the key %s: its mode is %03o, and must be 600", path, (unsigned)status.st_mode & 0777);
+        refuse(
+            TURNED_AWAY,
+            text("If nobody has read it, run 'chmod 600 %s'. Else set up anew under another key.",
+                 path),
+            "others can read the key %s: its mode is %03o, and must be 600", path,
+            (unsigned)status.st_mode & 0777);
     }
     return key;
 }
 
-/* Refuses a card with a number outside its limits. A call that only looks at the card says so ahead of what it looks for. */
+/* Refuses a card with a number outside its limits. A call that only looks at the card says so ahead
+ * of what it looks for. */
 static void check_limits(const char *path, struct bytes card)
 {
     struct bytes none = room(0), master = room(LEGBARO_MASTER_BYTES);
-    uint64_t code = LEGBARO_CODE(legbaro_cause(LEGBARO_PLANNER, LENT(master), LENT(card), LENT(none)));
+    uint64_t code =
+        LEGBARO_CODE(legbaro_cause(LEGBARO_PLANNER, LENT(master), LENT(card), LENT(none)));
     if (code != LEGBARO_WRONG_HEADER && code != LEGBARO_OUT_OF_LIMITS)
         return;
     field("code", code);
-    refuse(TURNED_AWAY, "Put back the newest card.", "%s: %s (code %" PRIu64 ")", path, code_words(code), code);
+    refuse(TURNED_AWAY, "Put back the newest card.", "%s: %s (code %" PRIu64 ")", path,
+           code_words(code), code);
 }
 
 struct bytes read_card(const char *folder)
@@ -215,14 +231,16 @@ struct bytes read_card(const char *folder)
     about(path);
     if (card.length != LEGBARO_CARD_BYTES && card.length != LEGBARO_TWO_STEP_CARD_BYTES) {
         field("code", LEGBARO_WRONG_LENGTH);
-        refuse(TURNED_AWAY, "Put back the newest card.", "%s has %zu bytes, and a card has %d or %d (code %d)", path, card.length,
+        refuse(TURNED_AWAY, "Put back the newest card.",
+               "%s has %zu bytes, and a card has %d or %d (code %d)", path, card.length,
                LEGBARO_CARD_BYTES, LEGBARO_TWO_STEP_CARD_BYTES, LEGBARO_WRONG_LENGTH);
     }
     uint64_t version = in_card(card, LEGBARO_CARD_VERSION, 1);
     if (version < LEGBARO_WITHOUT_MARKS || version > LEGBARO_TWO_STEPS ||
         (version == LEGBARO_TWO_STEPS) != (card.length == LEGBARO_TWO_STEP_CARD_BYTES)) {
         field("code", LEGBARO_WRONG_HEADER);
-        refuse(TURNED_AWAY, "Put back the newest card.", "%s is no card: it has %zu bytes and version %" PRIu64 " (code %d)", path,
+        refuse(TURNED_AWAY, "Put back the newest card.",
+               "%s is no card: it has %zu bytes and version %" PRIu64 " (code %d)", path,
                card.length, version, LEGBARO_WRONG_HEADER);
     }
     check_limits(path, card);
@@ -239,9 +257,12 @@ struct owner open_card(const char *path)
     enum newest newest = is_newest(&owner.folder, owner.card);
     about(path_in(path, "card"));
     if (newest == NOT_NEWEST)
-        refuse(TURNED_AWAY, "Put back the newest card. Another one would seal other tokens under counters that were used.",
-               "%s is not the card that the last command left here: its checksum is not the one in %s", path_in(path, "card"),
-               path_in(path, "card.sum"));
+        refuse(
+            TURNED_AWAY,
+            "Put back the newest card. Another one would seal other tokens under counters that "
+            "were used.",
+            "%s is not the card that the last command left here: its checksum is not the one in %s",
+            path_in(path, "card"), path_in(path, "card.sum"));
     owner.newest = newest == NEWEST;
     check_change(&owner.folder, owner.card);
     if (is_in(&owner.folder, "message"))

@@ -1,4 +1,5 @@
-/* See picture.h. The chance has a logarithmic scale from 1 to one in a million; a curve that goes below leaves its plot. */
+/* See picture.h. The chance has a logarithmic scale from 1 to one in a million; a curve that goes
+ * below leaves its plot. */
 #define _GNU_SOURCE
 #include "picture.h"
 #include "output.h"
@@ -12,10 +13,19 @@
 /* Two plots above, and one below that is as wide as both. */
 enum { WIDTH = 1560, HEIGHT = 1020, LEFT = 150, RIGHT = 930, PLOT_WIDTH = 400 };
 enum { ABOVE = 150, ABOVE_HEIGHT = 380, BELOW = 640, BELOW_HEIGHT = 300 };
-enum { DECADES = 6, IN_A_MILLION = 1000000, FEW_ROWS = 10, MOST_CURVES = 6, POINTS = 60, MOST_TICKS = 6 };
+enum {
+    DECADES = 6,
+    IN_A_MILLION = 1000000,
+    FEW_ROWS = 10,
+    MOST_CURVES = 6,
+    POINTS = 60,
+    MOST_TICKS = 6
+};
 
-/* Colours that most people can tell apart. The planned curve of a chance has one of its own; planned curves are thicker. */
-static const char *const colours[MOST_CURVES] = {"#56b4e9", "#0072b2", "#009e73", "#cc79a7", "#e69f00", "#999999"};
+/* Colours that most people can tell apart. The planned curve of a chance has one of its own;
+ * planned curves are thicker. */
+static const char *const colours[MOST_CURVES] = {"#56b4e9", "#0072b2", "#009e73",
+                                                 "#cc79a7", "#e69f00", "#999999"};
 static const char *const planned_colour = "#d55e00";
 
 static const char *const positions_axis = "r, positions that an audit draws (number of rows)";
@@ -24,15 +34,16 @@ static const char *const positions_axis = "r, positions that an audit draws (num
 enum { NEAR = 512 };
 static const char title[] = "<title>Risk and reading of an audit</title>\n";
 
-/* One curve: the number that it is for, and the last x that it has a value for. Behind that the value is 0. */
+/* One curve: the number that it is for, and the last x that it has a value for. Behind that the
+ * value is 0. */
 struct curve {
     uint64_t number, last;
     const char *name, *colour;
     int planned;
 };
 
-/* One plot: values against x, which goes up to most, with a curve for each of some numbers. Upwards the plot is linear up to highest, or
- * has the scale of a chance where that is 0. */
+/* One plot: values against x, which goes up to most, with a curve for each of some numbers. Upwards
+ * the plot is linear up to highest, or has the scale of a chance where that is 0. */
 struct plot {
     const struct numbers *of;
     int left, top, width, height;
@@ -83,7 +94,8 @@ static void words(FILE *f, double x, double y, const char *more, const char *wha
 
 static void line(FILE *f, double x1, double y1, double x2, double y2, const char *more)
 {
-    fprintf(f, "<line x1=\"%.1f\" y1=\"%.1f\" x2=\"%.1f\" y2=\"%.1f\" %s/>\n", x1, y1, x2, y2, more);
+    fprintf(f, "<line x1=\"%.1f\" y1=\"%.1f\" x2=\"%.1f\" y2=\"%.1f\" %s/>\n", x1, y1, x2, y2,
+            more);
 }
 
 static void dot(FILE *f, double x, double y)
@@ -106,7 +118,8 @@ static void heights(FILE *f, const struct plot *p)
             height(f, p, down(p, number), grouped(number));
     else
         for (int decade = 0; decade <= DECADES; decade++, in *= 10)
-            height(f, p, p->top + (double)p->height * decade / DECADES, decade ? text("1 in %s", grouped(in)) : "1");
+            height(f, p, p->top + (double)p->height * decade / DECADES,
+                   decade ? text("1 in %s", grouped(in)) : "1");
 }
 
 /* The frame with its title, and the axes with their names. */
@@ -118,19 +131,24 @@ static void frame(FILE *f, const struct plot *p)
         line(f, across(p, x), p->top, across(p, x), bottom(p) + 5, "class=\"grid\"");
         words(f, across(p, x), bottom(p) + 22, " text-anchor=\"middle\"", grouped(x));
     }
-    fprintf(f, "<rect x=\"%d\" y=\"%d\" width=\"%d\" height=\"%d\" class=\"frame\"/>\n", p->left, p->top, p->width, p->height);
-    fprintf(f, "<clipPath id=\"plot%d-%d\"><rect x=\"%d\" y=\"%d\" width=\"%d\" height=\"%d\"/></clipPath>\n", p->left, p->top, p->left,
-            p->top - 2, p->width, p->height + 2);
+    fprintf(f, "<rect x=\"%d\" y=\"%d\" width=\"%d\" height=\"%d\" class=\"frame\"/>\n", p->left,
+            p->top, p->width, p->height);
+    fprintf(f,
+            "<clipPath id=\"plot%d-%d\"><rect x=\"%d\" y=\"%d\" width=\"%d\" "
+            "height=\"%d\"/></clipPath>\n",
+            p->left, p->top, p->left, p->top - 2, p->width, p->height + 2);
     words(f, p->left, p->top - 16, " class=\"title\"", p->title);
     words(f, p->left + p->width / 2.0, bottom(p) + 48, " text-anchor=\"middle\"", p->axis);
-    fprintf(f, "<text transform=\"translate(%d %d) rotate(-90)\" text-anchor=\"middle\">%s</text>\n", p->left - 128,
-            p->top + p->height / 2, p->upwards);
+    fprintf(f,
+            "<text transform=\"translate(%d %d) rotate(-90)\" text-anchor=\"middle\">%s</text>\n",
+            p->left - 128, p->top + p->height / 2, p->upwards);
 }
 
 /* How a curve is drawn, in the plot and in the legend. */
 static const char *stroke(const struct curve *c)
 {
-    return text("fill=\"none\" stroke=\"%s\" stroke-width=\"%s\"", c->colour, c->planned ? "3.5" : "1.8");
+    return text("fill=\"none\" stroke=\"%s\" stroke-width=\"%s\"", c->colour,
+                c->planned ? "3.5" : "1.8");
 }
 
 static void curve(FILE *f, const struct plot *p, const struct curve *c)
@@ -203,14 +221,17 @@ static uint64_t by_damaged(const struct numbers *of, uint64_t x, uint64_t number
     return escape_of(of, number, x);
 }
 
-/* A curve of an r or an m, named with its share of the rows where that is not very small. It ends where r and m are as many as the rows. */
+/* A curve of an r or an m, named with its share of the rows where that is not very small. It ends
+ * where r and m are as many as the rows. */
 static void add_curve(struct plot *p, uint64_t number, int planned)
 {
     double share = 100.0 * (double)number / (double)p->of->rows;
     struct curve *c = &p->curves[p->count];
     c->number = number;
     c->last = p->of->rows - number;
-    c->name = share < 0.01 ? grouped(number) : text(share < 10 ? "%s (%.2g %%)" : "%s (%.0f %%)", grouped(number), share);
+    c->name = share < 0.01
+                  ? grouped(number)
+                  : text(share < 10 ? "%s (%.2g %%)" : "%s (%.0f %%)", grouped(number), share);
     c->colour = planned ? planned_colour : colours[p->count];
     c->planned = planned;
     p->count++;
@@ -233,7 +254,8 @@ static void choose(struct plot *p, uint64_t planned, const uint64_t *others, int
         add_curve(p, planned, 1);
 }
 
-/* How many damaged rows make the chance one in a million with the planned positions; a few, or all, where that is fewer. */
+/* How many damaged rows make the chance one in a million with the planned positions; a few, or all,
+ * where that is fewer. */
 static uint64_t damaged_shown(const struct numbers *of)
 {
     uint64_t low = 0, high = of->rows, few = of->rows < FEW_ROWS ? of->rows : FEW_ROWS;
@@ -247,10 +269,12 @@ static uint64_t damaged_shown(const struct numbers *of)
     return high < few ? few : high;
 }
 
-/* Both plots of the chance: against r with curves for some m, and against m with curves for some r. */
+/* Both plots of the chance: against r with curves for some m, and against m with curves for some
+ * r. */
 static void chance(FILE *f, const struct numbers *of)
 {
-    const uint64_t rows = of->rows, losses[] = {rows / 1000, rows / 200, rows / 100, rows / 20, rows / 10};
+    const uint64_t rows = of->rows,
+                   losses[] = {rows / 1000, rows / 200, rows / 100, rows / 20, rows / 10};
     uint64_t positions[MOST_SHOWN];
     int shown = positions_shown(of, positions);
     const struct plot either = {
@@ -300,7 +324,8 @@ static uint64_t hashes_of(const struct numbers *of, uint64_t positions, uint64_t
 static void hashes(FILE *f, const struct numbers *of)
 {
     uint64_t most = most_positions(of), highest = hashes_of(of, most, MOST);
-    uint64_t least_now = hashes_of(of, of->positions, LEAST), most_now = hashes_of(of, of->positions, MOST);
+    uint64_t least_now = hashes_of(of, of->positions, LEAST),
+             most_now = hashes_of(of, of->positions, MOST);
     int same = of->blocks % of->rows == 0;
     const struct plot p = {
         .of = of,
@@ -320,7 +345,8 @@ static void hashes(FILE *f, const struct numbers *of)
         .planned = grouped(least_now),
         .planned_to = least_now == most_now ? NULL : grouped(most_now),
         .count = same ? 1 : 2,
-        .curves = {{MOST, most, same ? "most and least" : "the most", colours[1], 1}, {LEAST, most, "the least", colours[4], 1}},
+        .curves = {{MOST, most, same ? "most and least" : "the most", colours[1], 1},
+                   {LEAST, most, "the least", colours[4], 1}},
     };
     plot(f, &p);
 }
@@ -328,19 +354,24 @@ static void hashes(FILE *f, const struct numbers *of)
 static void draw(FILE *f, const struct numbers *of)
 {
     fprintf(f,
-            "<svg xmlns=\"http://www.w3.org/2000/svg\" width=\"%d\" height=\"%d\" viewBox=\"0 0 %d %d\" font-family=\"sans-serif\" "
+            "<svg xmlns=\"http://www.w3.org/2000/svg\" width=\"%d\" height=\"%d\" viewBox=\"0 0 %d "
+            "%d\" font-family=\"sans-serif\" "
             "font-size=\"15\" style=\"max-width:100%%;height:auto\">\n",
             WIDTH, HEIGHT, WIDTH, HEIGHT);
     fputs(title, f);
-    fputs("<style>.grid{stroke:#ddd}.frame{fill:none;stroke:#444}.title{font-weight:bold}.head{font-size:24px;font-weight:bold}"
+    fputs("<style>.grid{stroke:#ddd}.frame{fill:none;stroke:#444}.title{font-weight:bold}.head{"
+          "font-size:24px;font-weight:bold}"
           ".dot{fill:#000;stroke:#fff;stroke-width:1.5}</style>\n"
           "<rect width=\"100%\" height=\"100%\" fill=\"#fff\"/>\n",
           f);
     words(f, 40, 44, " class=\"head\"", "Risk and reading of an audit");
     words(f, 40, 72, "",
-          text("d = %s %s with n = %s %s. An audit draws r different rows. A loss escapes it if none of the m damaged rows is drawn.",
-               grouped(of->rows), of->rows == 1 ? "row" : "rows", grouped(of->blocks), of->blocks == 1 ? "block" : "blocks"));
-    words(f, 40, 96, "", text("Planned: r = %s, m = %s.", grouped(of->positions), grouped(of->damaged)));
+          text("d = %s %s with n = %s %s. An audit draws r different rows. A loss escapes it if "
+               "none of the m damaged rows is drawn.",
+               grouped(of->rows), of->rows == 1 ? "row" : "rows", grouped(of->blocks),
+               of->blocks == 1 ? "block" : "blocks"));
+    words(f, 40, 96, "",
+          text("Planned: r = %s, m = %s.", grouped(of->positions), grouped(of->damaged)));
     chance(f, of);
     hashes(f, of);
     fputs("</svg>\n", f);

@@ -60,7 +60,8 @@ static void order(struct pool *pool, struct bytes reply)
 {
     for (int i = 0; i < pool->count; i++)
         for (int k = i; k < pool->count; k++)
-            if (!memcmp(reply.at + FRONT_BYTES + i * FILE_BYTES, pool->owners[k].card.at + LEGBARO_CARD_ID, LEGBARO_ID_BYTES)) {
+            if (!memcmp(reply.at + FRONT_BYTES + i * FILE_BYTES,
+                        pool->owners[k].card.at + LEGBARO_CARD_ID, LEGBARO_ID_BYTES)) {
                 struct owner owner = pool->owners[i];
                 pool->owners[i] = pool->owners[k];
                 pool->owners[k] = owner;
@@ -74,7 +75,8 @@ static struct pool open_pool(int count, char **paths)
     for (int i = 0; i < count; i++) {
         for (int k = 0; k < i; k++)
             if (!strcmp(paths[i], paths[k]))
-                refuse(TURNED_AWAY, code_next(LEGBARO_BAD_POOL), "%s is named twice (code %d)", paths[i], LEGBARO_BAD_POOL);
+                refuse(TURNED_AWAY, code_next(LEGBARO_BAD_POOL), "%s is named twice (code %d)",
+                       paths[i], LEGBARO_BAD_POOL);
         pool.owners[i] = open_card(paths[i]);
         if (!in_card(pool.owners[i].card, LEGBARO_CARD_OPEN, 4)) {
             about(path_in(paths[i], "card"));
@@ -116,8 +118,10 @@ static void prepare_cards(struct pool *pool, struct bytes cards, struct entry en
 /* Where a single reply has its version, id with token, and record. */
 enum { REPLY_VERSION = 2, REPLY_ID = 3, NAME_BYTES = 12, REPLY_RECORD = 47 };
 
-/* The cause for one file of a pooled reply: that of a single reply with its name and record, whose digest nobody can tell. */
-static uint64_t cause_of(const struct options *o, struct bytes master, struct bytes card, const uint8_t *part)
+/* The cause for one file of a pooled reply: that of a single reply with its name and record, whose
+ * digest nobody can tell. */
+static uint64_t cause_of(const struct options *o, struct bytes master, struct bytes card,
+                         const uint8_t *part)
 {
     uint8_t reply[LEGBARO_REPLY_BYTES] = {0};
     put_number(reply, 2, LEGBARO_REPLY_BYTES - 2);
@@ -127,14 +131,20 @@ static uint64_t cause_of(const struct options *o, struct bytes master, struct by
     return LEGBARO_NUMBER(legbaro_cause(o->role, LENT(master), LENT(card), reply, sizeof reply));
 }
 
-/* As with a single reply: one that was mixed up or made from an older table closes no draw, unless --close is given. */
-static void refuse_unjudged(const struct options *o, struct bytes master, const struct pool *pool, struct bytes reply)
+/* As with a single reply: one that was mixed up or made from an older table closes no draw, unless
+ * --close is given. */
+static void refuse_unjudged(const struct options *o, struct bytes master, const struct pool *pool,
+                            struct bytes reply)
 {
-    const char *path = o->words[0], *open = "The draws stay open; 'legbaro judge-pool --close' rejects the reply and closes them.";
+    const char
+        *path = o->words[0],
+        *open =
+            "The draws stay open; 'legbaro judge-pool --close' rejects the reply and closes them.";
     about(path);
-    if (number_at(reply.at, 2) != reply.length - 2 || reply.at[2] != 1 || number_at(reply.at + 3, 2) != (uint64_t)pool->count)
-        refuse(TURNED_AWAY, text("Ask the host to send it again. %s", open), "%s is not judged: it is no pooled reply",
-               input_words(path));
+    if (number_at(reply.at, 2) != reply.length - 2 || reply.at[2] != 1 ||
+        number_at(reply.at + 3, 2) != (uint64_t)pool->count)
+        refuse(TURNED_AWAY, text("Ask the host to send it again. %s", open),
+               "%s is not judged: it is no pooled reply", input_words(path));
     for (int i = 0; i < pool->count; i++) {
         struct bytes card = pool->owners[i].card;
         uint64_t cause = cause_of(o, master, card, reply.at + FRONT_BYTES + i * FILE_BYTES);
@@ -142,8 +152,9 @@ static void refuse_unjudged(const struct options *o, struct bytes master, const 
             continue;
         field("cause", cause);
         field_text("id", id_words(card.at + LEGBARO_CARD_ID));
-        refuse(TURNED_AWAY, text("%s %s", cause_next(cause), open), "%s is not judged: for file %s cause %" PRIu64 ", %s",
-               input_words(path), id_words(card.at + LEGBARO_CARD_ID), cause, cause_words(cause));
+        refuse(TURNED_AWAY, text("%s %s", cause_next(cause), open),
+               "%s is not judged: for file %s cause %" PRIu64 ", %s", input_words(path),
+               id_words(card.at + LEGBARO_CARD_ID), cause, cause_words(cause));
     }
 }
 
@@ -165,8 +176,10 @@ int run_judge_pool(const struct options *o)
     enum status status = result == LEGBARO_OK ? DONE : REJECTED;
     if (result != LEGBARO_OK && LEGBARO_CODE(result) != LEGBARO_REJECTED)
         turn_away(result, "the cards");
-    const struct entry entry = {.command = command_name(), .verdict = verdict_word(status),
-                                .role = o->role, .cause = status == DONE ? 0 : LEGBARO_CAUSE_DIGEST,
+    const struct entry entry = {.command = command_name(),
+                                .verdict = verdict_word(status),
+                                .role = o->role,
+                                .cause = status == DONE ? 0 : LEGBARO_CAUSE_DIGEST,
                                 .pool = (uint64_t)pool.count};
     prepare_cards(&pool, cards, entry);
     field("files", (uint64_t)pool.count);

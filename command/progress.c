@@ -49,7 +49,8 @@ static void stopped(int signal)
 /* While a line is shown, a signal ends it with a word. A signal that is ignored stays ignored. */
 static void begin_line(void)
 {
-    const struct sigaction action = {.sa_handler = stopped, .sa_flags = (int)SA_RESETHAND | SA_NODEFER};
+    const struct sigaction action = {.sa_handler = stopped,
+                                     .sa_flags = (int)SA_RESETHAND | SA_NODEFER};
     struct sigaction before;
     for (int i = 0; i < SIGNALS; i++)
         if (sigaction(signals[i], NULL, &before) == 0 && before.sa_handler == SIG_DFL)

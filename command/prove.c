@@ -31,7 +31,8 @@ static struct held map_held(const char *folder, struct bytes message)
     return held;
 }
 
-/* Refuses a message for another number of blocks than stand, or will stand when a change that is half in
+/* Refuses a message for another number of blocks than stand, or will stand when a change that is
+ * half in
  * place is there. Where no command has stopped, the files themselves are looked at. */
 static void refuse_other_size(const struct host *host, struct bytes message, const char *path)
 {
@@ -39,10 +40,12 @@ static void refuse_other_size(const struct host *host, struct bytes message, con
     int stopped = host->half || (host->begun && is_in(&host->folder, "adding"));
     about(path);
     if (stopped && (n != host->stands.blocks_after || bytes != host->stands.block_bytes))
-        refuse(TURNED_AWAY, "A command was stopped here: run 'legbaro apply' first, with the change that was sent.",
-               "by %s the file has %" PRIu64 " blocks of %" PRIu64 " bytes, and here it has %" PRIu64
-               " of %" PRIu64,
-               input_words(path), n, bytes, host->stands.blocks_after, host->stands.block_bytes);
+        refuse(
+            TURNED_AWAY,
+            "A command was stopped here: run 'legbaro apply' first, with the change that was sent.",
+            "by %s the file has %" PRIu64 " blocks of %" PRIu64 " bytes, and here it has %" PRIu64
+            " of %" PRIu64,
+            input_words(path), n, bytes, host->stands.blocks_after, host->stands.block_bytes);
 }
 
 /* Whether bytes are a reply: its own length is its first field. */

@@ -21,7 +21,8 @@
 
 enum { RECEIPT_BYTES = 34 };
 
-/* Prepares the receipt of a card's change at a counter: the pending one, before it is committed, or the
+/* Prepares the receipt of a card's change at a counter: the pending one, before it is committed, or
+ * the
  * one that stands. Returns whether the change is in the folder. */
 int prepare_receipt(const struct folder *folder, struct bytes card, uint64_t counter);
 

@@ -132,7 +132,11 @@ static int utf8_length(const char *words)
 {
     const unsigned char *at = (const unsigned char *)words;
     static const uint32_t least[] = {0, 0, 0x80, 0x800, 0x10000};
-    int length = at[0] < 0x80 ? 1 : at[0] >> 5 == 6 ? 2 : at[0] >> 4 == 14 ? 3 : at[0] >> 3 == 30 ? 4 : 0;
+    int length = at[0] < 0x80       ? 1
+                 : at[0] >> 5 == 6  ? 2
+                 : at[0] >> 4 == 14 ? 3
+                 : at[0] >> 3 == 30 ? 4
+                                    : 0;
     uint32_t number = length > 1 ? at[0] & (0x7fu >> length) : at[0];
     for (int i = 1; i < length; i++) {
         if (at[i] >> 6 != 2)
@@ -274,7 +278,8 @@ void turn_away(uint64_t result, const char *file)
     field("code", code);
     if (code == LEGBARO_BAD_RECORD) {
         field("token", number);
-        refuse(TURNED_AWAY, code_next(code), "%s: record %" PRIu64 " does not open (code %" PRIu64 ")", file, number, code);
+        refuse(TURNED_AWAY, code_next(code),
+               "%s: record %" PRIu64 " does not open (code %" PRIu64 ")", file, number, code);
     }
     refuse(TURNED_AWAY, code_next(code), "%s: %s (code %" PRIu64 ")", file, code_words(code), code);
 }
@@ -293,7 +298,8 @@ static const char *fault_next(int fault)
     case EDQUOT:
         return "The disk is full: make room, and run the command again. Nothing has changed.";
     case EFBIG:
-        return "The file would be larger than this account may write (ulimit -f) or than the disk takes. Nothing has changed.";
+        return "The file would be larger than this account may write (ulimit -f) or than the disk "
+               "takes. Nothing has changed.";
     default:
         return "Nothing has changed.";
     }
@@ -303,5 +309,6 @@ void file_fault(const char *tried, const char *path)
 {
     int fault = errno;
     about(path);
-    refuse(BAD_FILE, stands ? stands : fault_next(fault), "can't %s %s: %s", tried, path, strerror(fault));
+    refuse(BAD_FILE, stands ? stands : fault_next(fault), "can't %s %s: %s", tried, path,
+           strerror(fault));
 }

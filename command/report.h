@@ -25,7 +25,8 @@ void say(const char *format, ...) __attribute__((format(printf, 1, 2)));
 void field(const char *name, uint64_t number);
 void field_text(const char *name, const char *words);
 
-/* How many bytes the first character of a text has, in UTF-8. Returns 0 where it begins with a control
+/* How many bytes the first character of a text has, in UTF-8. Returns 0 where it begins with a
+ * control
  * character, or with no character at all. */
 int plain_length(const char *words);
 
@@ -44,14 +45,16 @@ struct refusal {
     const char *what, *next;
 };
 
-/* Makes a call that may be refused. Returns whether it was not; writes the refusal where it was. For
+/* Makes a call that may be refused. Returns whether it was not; writes the refusal where it was.
+ * For
  * calls that only read: what they have open or locked when they are refused stays so. */
 int attempt(void (*call)(void *lent), void *lent, struct refusal *refusal);
 
 /* Prints the object where JSON is asked for, and answers the status. */
 int ended(enum status status);
 
-/* What can no longer be undone is told in the place of 'Nothing has changed.' when a file can't be written from now on. */
+/* What can no longer be undone is told in the place of 'Nothing has changed.' when a file can't be
+ * written from now on. */
 void decided(const char *what_stands);
 int is_decided(void);
 

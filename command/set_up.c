@@ -24,10 +24,13 @@ int run_key(const struct options *o)
     const struct piece piece = {key.at, key.length};
     about(path);
     if (!is_in(&folder, "key") && is_in(&folder, "key.ids"))
-        refuse(TURNED_AWAY, "Put that key back, or take another folder.", "%s.ids lists files of a key that is gone", path);
+        refuse(TURNED_AWAY, "Put that key back, or take another folder.",
+               "%s.ids lists files of a key that is gone", path);
     if (is_in(&folder, "key"))
-        refuse(TURNED_AWAY, "A key is never replaced: the files that it seals would be lost. Take another folder.", "there is a key in %s",
-               path);
+        refuse(
+            TURNED_AWAY,
+            "A key is never replaced: the files that it seals would be lost. Take another folder.",
+            "there is a key in %s", path);
     for (size_t done = 0; done < key.length;) {
         ssize_t got = getrandom(key.at + done, key.length - done, 0);
         if (got < 0 && errno != EINTR)
@@ -53,8 +56,9 @@ struct set_up {
 static uint64_t call(void *lent)
 {
     struct set_up *s = lent;
-    return legbaro_set_up(LENT(s->master), s->id, sizeof s->id, s->o->version, s->o->block_bytes, s->o->rows, s->o->positions, s->o->tokens,
-                          s->count, LENT(s->blocks), LENT(s->card), LENT(s->table), LENT(s->totals));
+    return legbaro_set_up(LENT(s->master), s->id, sizeof s->id, s->o->version, s->o->block_bytes,
+                          s->o->rows, s->o->positions, s->o->tokens, s->count, LENT(s->blocks),
+                          LENT(s->card), LENT(s->table), LENT(s->totals));
 }
 
 static void read_told(struct set_up *s, const struct options *o)
@@ -65,8 +69,8 @@ static void read_told(struct set_up *s, const struct options *o)
     needs_number(o->positions, "--positions");
     needs_number(o->tokens, "--tokens");
     if (strlen(o->id) > LEGBARO_ID_BYTES)
-        refuse(WRONG_USE, "Choose an id of 1 to 8 bytes; a letter outside ASCII has 2 to 4.", "--id: '%s' has %zu bytes", o->id,
-               strlen(o->id));
+        refuse(WRONG_USE, "Choose an id of 1 to 8 bytes; a letter outside ASCII has 2 to 4.",
+               "--id: '%s' has %zu bytes", o->id, strlen(o->id));
     memcpy(s->id, o->id, strlen(o->id));
 }
 
@@ -79,24 +83,27 @@ static void count_blocks(struct set_up *s, const char *path)
     if (s->o->block_bytes && (!s->count || s->blocks.length % s->o->block_bytes)) {
         field("code", LEGBARO_NOT_WHOLE_BLOCKS);
         refuse(TURNED_AWAY, "Look whether it is cut, and whether --block-bytes is right.",
-               "%s has %zu bytes, which are no whole blocks of %" PRIu64 " bytes (code %d)", path, s->blocks.length, s->o->block_bytes,
-               LEGBARO_NOT_WHOLE_BLOCKS);
+               "%s has %zu bytes, which are no whole blocks of %" PRIu64 " bytes (code %d)", path,
+               s->blocks.length, s->o->block_bytes, LEGBARO_NOT_WHOLE_BLOCKS);
     }
 }
 
-/* An id is set up once under a key, but where its set-up was stopped before the card took its place. */
+/* An id is set up once under a key, but where its set-up was stopped before the card took its
+ * place. */
 static void refuse_second(const struct folder *folder, const struct set_up *s)
 {
     const char *key = key_path(s->o);
     about(key);
     if (id_is_listed(key, s->id) && !set_up_stopped(folder))
         refuse(TURNED_AWAY,
-               "Take another id. A second set-up would seal other tokens under nonces that were used, and who sees both tables can read "
+               "Take another id. A second set-up would seal other tokens under nonces that were "
+               "used, and who sees both tables can read "
                "tokens.",
                "file %s was set up under the key %s before, by %s.ids", id_words(s->id), key, key);
 }
 
-/* Change and card are stored together, as owner.h says, and the id is listed before the card takes its place. */
+/* Change and card are stored together, as owner.h says, and the id is listed before the card takes
+ * its place. */
 static void store_all(const struct folder *folder, const struct set_up *s)
 {
     struct owner owner = {.folder = *folder, .card = s->card, .before = room(0), .newest = 1};
@@ -123,13 +130,16 @@ int run_set_up(const struct options *o)
     struct folder folder = lock_folder(o->folder, 0);
     if (is_in(&folder, "card") || is_in(&folder, "change"))
         refuse(TURNED_AWAY,
-               "Its 'change' goes to the host. A key and an id are set up once only: for another file take another folder and id.",
+               "Its 'change' goes to the host. A key and an id are set up once only: for another "
+               "file take another folder and id.",
                "a file is set up in %s", o->folder);
     s.master = read_master(o);
     refuse_second(&folder, &s);
     count_blocks(&s, o->words[0]);
-    s.card = shared_room(o->version == LEGBARO_TWO_STEPS ? LEGBARO_TWO_STEP_CARD_BYTES : LEGBARO_CARD_BYTES);
-    s.table = shared_room((o->tokens <= LEGBARO_MOST_TOKENS ? o->tokens : 0) * LEGBARO_RECORD_BYTES);
+    s.card = shared_room(o->version == LEGBARO_TWO_STEPS ? LEGBARO_TWO_STEP_CARD_BYTES
+                                                         : LEGBARO_CARD_BYTES);
+    s.table =
+        shared_room((o->tokens <= LEGBARO_MOST_TOKENS ? o->tokens : 0) * LEGBARO_RECORD_BYTES);
     s.totals = shared_room(LEGBARO_TOTALS_BYTES);
     struct watch watch = {(int)o->progress, s.table, 1, 0};
     uint64_t result = with_progress(call, &s, &watch);
@@ -141,9 +151,10 @@ int run_set_up(const struct options *o)
     field_text("id", id_words(s.id));
     field("blocks", s.count);
     field_text("file", path_in(o->folder, "change"));
-    say("%s is set up: %" PRIu64 " block%s of %" PRIu64 " bytes in %" PRIu64 " rows, %" PRIu64 " tokens of %" PRIu64
-        " positions, version %" PRIu64,
-        id_words(s.id), s.count, s.count == 1 ? "" : "s", o->block_bytes, o->rows, o->tokens, o->positions, o->version);
+    say("%s is set up: %" PRIu64 " block%s of %" PRIu64 " bytes in %" PRIu64 " rows, %" PRIu64
+        " tokens of %" PRIu64 " positions, version %" PRIu64,
+        id_words(s.id), s.count, s.count == 1 ? "" : "s", o->block_bytes, o->rows, o->tokens,
+        o->positions, o->version);
     tell_audit(s.card);
     tell_totals(s.totals);
     say("next: send %s to the host, who runs 'legbaro apply change'", path_in(o->folder, "change"));

@@ -1,5 +1,5 @@
-/* The commands sheet and positions. What is not told of a sheet is that of a car park with 96 bays which plans a year of hours and an audit
- * a day. */
+/* The commands sheet and positions. What is not told of a sheet is that of a car park with 96 bays
+ * which plans a year of hours and an audit a day. */
 #include "codes.h"
 #include "commands.h"
 #include "files.h"
@@ -12,7 +12,12 @@
 #include <stdio.h>
 #include <string.h>
 
-static const struct numbers example = {.block_bytes = 96, .rows = 8760, .positions = 460, .tokens = 365, .blocks = 10000, .damaged = 88};
+static const struct numbers example = {.block_bytes = 96,
+                                       .rows = 8760,
+                                       .positions = 460,
+                                       .tokens = 365,
+                                       .blocks = 10000,
+                                       .damaged = 88};
 
 static uint64_t told(uint64_t number, uint64_t otherwise)
 {
@@ -21,8 +26,10 @@ static uint64_t told(uint64_t number, uint64_t otherwise)
 
 static struct numbers planned(const struct options *o)
 {
-    struct numbers of = {told(o->block_bytes, example.block_bytes), told(o->rows, example.rows),     told(o->positions, example.positions),
-                         told(o->tokens, example.tokens),           told(o->blocks, example.blocks), told(o->damaged, example.damaged)};
+    struct numbers of = {
+        told(o->block_bytes, example.block_bytes), told(o->rows, example.rows),
+        told(o->positions, example.positions),     told(o->tokens, example.tokens),
+        told(o->blocks, example.blocks),           told(o->damaged, example.damaged)};
     return of;
 }
 
@@ -80,7 +87,10 @@ static void print_sheet(const struct numbers *of, const struct sheet *sheet)
  * terminal of 80. */
 static void print_risks(const struct numbers *of)
 {
-    uint64_t m = of->damaged ? of->damaged : of->rows < 100 ? 1 : of->rows / 100, across[MOST_SHOWN];
+    uint64_t m = of->damaged      ? of->damaged
+                 : of->rows < 100 ? 1
+                                  : of->rows / 100,
+             across[MOST_SHOWN];
     uint64_t down[] = {1, m / 8, m / 4, m / 2, m, 2 * m, 4 * m, 8 * m};
     int columns = positions_shown(of, across);
     int lines = sifted(down, sizeof down / sizeof *down, of->rows);
@@ -88,7 +98,8 @@ static void print_risks(const struct numbers *of)
     for (int i = -1; i < lines; i++) {
         const char *words = text("    %9s", i < 0 ? "" : grouped(down[i]));
         for (int k = 0; k < columns; k++)
-            words = text("%s %10s", words, i < 0 ? grouped(across[k]) : percent(escape_of(of, across[k], down[i])));
+            words = text("%s %10s", words,
+                         i < 0 ? grouped(across[k]) : percent(escape_of(of, across[k], down[i])));
         say("%s", words);
     }
 }
@@ -121,8 +132,9 @@ int run_sheet(const struct options *o)
 static void limit(const char *option, uint64_t number, uint64_t most, const char *why)
 {
     if (number < 1 || number > most)
-        refuse(TURNED_AWAY, code_next(LEGBARO_OUT_OF_LIMITS), "%s is %" PRIu64 ", and may be 1 to %" PRIu64 "%s (code %d)",
-               option, number, most, why, LEGBARO_OUT_OF_LIMITS);
+        refuse(TURNED_AWAY, code_next(LEGBARO_OUT_OF_LIMITS),
+               "%s is %" PRIu64 ", and may be 1 to %" PRIu64 "%s (code %d)", option, number, most,
+               why, LEGBARO_OUT_OF_LIMITS);
 }
 
 static void refuse_positions(const struct options *o)
@@ -140,14 +152,17 @@ int run_positions(const struct options *o)
     needs_number(o->positions, "--positions, how many of the blocks an audit is to look at,");
     needs_number(o->rows, "--rows, the rows that are planned,");
     needs_number(o->blocks, "--blocks, the blocks that there are,");
-    uint64_t result = legbaro_positions(o->positions, o->rows, o->blocks), number = LEGBARO_NUMBER(result);
+    uint64_t result = legbaro_positions(o->positions, o->rows, o->blocks),
+             number = LEGBARO_NUMBER(result);
     if (LEGBARO_CODE(result) == LEGBARO_OUT_OF_LIMITS)
         refuse_positions(o);
     if (LEGBARO_CODE(result) != LEGBARO_OK)
-        turn_away(result, text("--positions %" PRIu64 " of --blocks %" PRIu64 ", --rows %" PRIu64, o->positions, o->blocks, o->rows));
+        turn_away(result, text("--positions %" PRIu64 " of --blocks %" PRIu64 ", --rows %" PRIu64,
+                               o->positions, o->blocks, o->rows));
     field("positions", number);
-    say("set up with %s: with %s and %s an audit then looks at %s or more on average", counted(number, "position", "positions"),
-        counted(o->rows, "row", "rows"), counted(o->blocks, "block", "blocks"), counted(o->positions, "block", "blocks"));
+    say("set up with %s: with %s and %s an audit then looks at %s or more on average",
+        counted(number, "position", "positions"), counted(o->rows, "row", "rows"),
+        counted(o->blocks, "block", "blocks"), counted(o->positions, "block", "blocks"));
     say("next: 'legbaro set-up --positions %" PRIu64 " --rows %" PRIu64 " ..'", number, o->rows);
     return ended(DONE);
 }

@@ -12,8 +12,9 @@
 static void within(const char *name, uint64_t number, uint64_t most)
 {
     if (number != UNTOLD && (number < 1 || number > most))
-        refuse(TURNED_AWAY, code_next(LEGBARO_OUT_OF_LIMITS), "%s is %" PRIu64 ", and may be 1 to %" PRIu64 " (code %d)", name, number,
-               most, LEGBARO_OUT_OF_LIMITS);
+        refuse(TURNED_AWAY, code_next(LEGBARO_OUT_OF_LIMITS),
+               "%s is %" PRIu64 ", and may be 1 to %" PRIu64 " (code %d)", name, number, most,
+               LEGBARO_OUT_OF_LIMITS);
 }
 
 void refuse_limits(const struct options *o, uint64_t blocks)
@@ -24,7 +25,8 @@ void refuse_limits(const struct options *o, uint64_t blocks)
     within("--rows", o->rows, LEGBARO_MOST_ROWS);
     within("--tokens", o->tokens, LEGBARO_MOST_TOKENS);
     within("the number of blocks", blocks, LEGBARO_MOST_BLOCKS);
-    within("--positions", o->positions, o->rows < LEGBARO_MOST_POSITIONS ? o->rows : LEGBARO_MOST_POSITIONS);
+    within("--positions", o->positions,
+           o->rows < LEGBARO_MOST_POSITIONS ? o->rows : LEGBARO_MOST_POSITIONS);
     turn_away(LEGBARO_OUT_OF_LIMITS, "the numbers told");
 }
 
@@ -36,14 +38,17 @@ void refuse_without_right(uint64_t result, const struct options *o)
 
 void tell_totals(struct bytes totals)
 {
-    uint64_t turns = number_at(totals.at + LEGBARO_TOTALS_TURNS, 8), hashes = number_at(totals.at + LEGBARO_TOTALS_HASHES, 8);
+    uint64_t turns = number_at(totals.at + LEGBARO_TOTALS_TURNS, 8),
+             hashes = number_at(totals.at + LEGBARO_TOTALS_HASHES, 8);
     field("turns", turns);
     field("hashes", hashes);
     if (spoken() == VERBOSE)
-        say("work: %" PRIu64 " turns of the permutation, %" PRIu64 " hashes of blocks", turns, hashes);
+        say("work: %" PRIu64 " turns of the permutation, %" PRIu64 " hashes of blocks", turns,
+            hashes);
 }
 
-/* The least and the most blocks that an audit looks at: the hashes of a proof, by the planning sheet. */
+/* The least and the most blocks that an audit looks at: the hashes of a proof, by the planning
+ * sheet. */
 static struct sheet audit_of(struct bytes card)
 {
     const struct numbers of = {
@@ -68,14 +73,20 @@ void tell_audit(struct bytes card)
     if (sheet.least == blocks)
         say("an audit looks at every block");
     else if (sheet.least == sheet.most)
-        say("an audit looks at %" PRIu64 " of %" PRIu64 " block%s", sheet.least, blocks, blocks == 1 ? "" : "s");
+        say("an audit looks at %" PRIu64 " of %" PRIu64 " block%s", sheet.least, blocks,
+            blocks == 1 ? "" : "s");
     else
-        say("an audit looks at %" PRIu64 " to %" PRIu64 " of %" PRIu64 " block%s", sheet.least, sheet.most, blocks, blocks == 1 ? "" : "s");
+        say("an audit looks at %" PRIu64 " to %" PRIu64 " of %" PRIu64 " block%s", sheet.least,
+            sheet.most, blocks, blocks == 1 ? "" : "s");
     if (sheet.least)
         return;
-    const char *fix = text("legbaro positions --positions %" PRIu64 " --rows %" PRIu64 " --blocks %" PRIu64,
-                           in_card(card, LEGBARO_CARD_POSITIONS, 2), in_card(card, LEGBARO_CARD_ROWS, 4), blocks);
-    field_text("warning", text("an audit may look at no block at all; '%s' says how many positions to set up with", fix));
+    const char *fix =
+        text("legbaro positions --positions %" PRIu64 " --rows %" PRIu64 " --blocks %" PRIu64,
+             in_card(card, LEGBARO_CARD_POSITIONS, 2), in_card(card, LEGBARO_CARD_ROWS, 4), blocks);
+    field_text(
+        "warning",
+        text("an audit may look at no block at all; '%s' says how many positions to set up with",
+             fix));
     say("warning: an audit may look at no block at all, and is accepted then");
     say("  '%s' says how many positions to set up with", fix);
 }

@@ -5,7 +5,8 @@
 #include "files.h"
 #include "options.h"
 
-/* Says which of the numbers told is outside its limits, and ends the program with status TURNED_AWAY. */
+/* Says which of the numbers told is outside its limits, and ends the program with status
+ * TURNED_AWAY. */
 void refuse_limits(const struct options *options, uint64_t blocks);
 
 /* Ends the program where a result says that the role has no right. */

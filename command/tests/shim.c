@@ -1,10 +1,11 @@
 /*
- * Stands between a program and the calls by which it changes files, and lets one of them fail. To be loaded in front of the C library:
+ * Stands between a program and the calls by which it changes files, and lets one of them fail. To
+ * be loaded in front of the C library:
  *
  *   LD_PRELOAD=shim.so SHIM_DO=WHAT SHIM_AT=N program ..
  *
- * Counted from 1 are openat that makes a file, write, pwrite, ftruncate, fsync, renameat and unlinkat; standard input, output and error are
- * not. At call N happens WHAT:
+ * Counted from 1 are openat that makes a file, write, pwrite, ftruncate, fsync, renameat and
+ * unlinkat; standard input, output and error are not. At call N happens WHAT:
  *
  *   stop         the program ends before the call
  *   torn         the same, but half of a write is done
@@ -30,9 +31,9 @@ enum { STOPPED = 77, MOST = 64 };
 enum outcome { GO_ON, FAIL, HALF };
 
 /* The call behind the one of that name here. */
-#define REAL(result, name, ...)                                                                                                            \
-    static result (*real_##name)(__VA_ARGS__);                                                                                             \
-    if (!real_##name)                                                                                                                      \
+#define REAL(result, name, ...)                                                                    \
+    static result (*real_##name)(__VA_ARGS__);                                                     \
+    if (!real_##name)                                                                              \
     *(void **)&real_##name = dlsym(RTLD_NEXT, #name)
 
 static int calls, dirty_count;
@@ -68,10 +69,12 @@ static void __attribute__((destructor)) tell_count(void)
 static int same_file(int a, int b)
 {
     struct stat of_a, of_b;
-    return fstat(a, &of_a) == 0 && fstat(b, &of_b) == 0 && of_a.st_ino == of_b.st_ino && of_a.st_dev == of_b.st_dev;
+    return fstat(a, &of_a) == 0 && fstat(b, &of_b) == 0 && of_a.st_ino == of_b.st_ino &&
+           of_a.st_dev == of_b.st_dev;
 }
 
-/* A file that is written from its beginning loses all; of another the bytes after its end are lost. */
+/* A file that is written from its beginning loses all; of another the bytes after its end are
+ * lost. */
 static void remember_written(int file, int from_beginning)
 {
     struct stat status;
