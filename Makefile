@@ -99,6 +99,10 @@ $(OUT)/tests: $(wildcard tests/cases/*.[ch]) $(SHARED) $(LIB)/liblegbaro.a $(HEA
 	@mkdir -p $(OUT)
 	$(COMPILE) -Itests -pthread $(filter %.c,$^) -o $@ $(LINK) -lcrypto -lisal
 
+$(OUT)/spec-outputs: tests/spec/outputs.c $(LIB)/liblegbaro.a $(HEADERS)
+	@mkdir -p $(OUT)
+	$(COMPILE) $< -o $@ $(LINK)
+
 # These two know the variants in the archive by their own names, so they are for the archive that has them all.
 chosen: $(OUT)/chosen
 	@$(OUT)/chosen

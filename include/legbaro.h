@@ -199,52 +199,30 @@
 
 /* Codes. */
 #define LEGBARO_OK 0
-#define LEGBARO_WRONG_LENGTH 1 /* a buffer has another length than the call asks */
-#define LEGBARO_WRONG_HEADER                                                                       \
-    2 /* a card, message or reply to pool of no version, or not of
-                                         its size; ask in version 1 or 2 */
-#define LEGBARO_OUT_OF_LIMITS                                                                      \
-    3                           /* a field of card, message or plan, or a number lent, is
-                                         outside its limits */
-#define LEGBARO_NO_SUCH_BLOCK 4 /* the block number, or one in a batch, is 0 or above n */
-#define LEGBARO_FILE_FULL                                                                          \
-    5                           /* append or load that would make n more than
-                                         LEGBARO_MOST_BLOCKS */
-#define LEGBARO_NO_TOKEN_LEFT 6 /* draw after the last token */
-#define LEGBARO_BAD_RECORD                                                                         \
-    7                        /* an unused record does not open; the lowest such token comes
-                                         with the code */
-#define LEGBARO_TOKEN_OPEN 8 /* change, ask or draw while a drawn token is not judged */
-#define LEGBARO_NONE_OPEN                                                                          \
-    9 /* judge, singly or a pool, or cause, while no token is drawn
-                                         */
-#define LEGBARO_COUNTER_AT_MOST                                                                    \
-    10                              /* change or ask with the last counter issued at
-                                         LEGBARO_MOST_COUNTER */
-#define LEGBARO_REJECTED 11         /* judge: the reply does not prove possession */
-#define LEGBARO_NOT_WHOLE_BLOCKS 12 /* load of no bytes, or of a length that B does not divide */
-#define LEGBARO_TOO_MANY_POSITIONS                                                                 \
-    13 /* the positions asked for are more than
-                                         LEGBARO_MOST_POSITIONS */
-#define LEGBARO_BAD_BATCH                                                                          \
-    14                      /* a batch of no item, too many or no whole ones, of another
-                                         kind, or with numbers that do not rise */
-#define LEGBARO_BAD_MARK 15 /* a mark is neither LEGBARO_LIVE nor LEGBARO_DELETED */
-#define LEGBARO_BAD_TIME                                                                           \
-    16                              /* there is no such date, or it or the minute is outside the
-                                         limits */
-#define LEGBARO_OUTSIDE_WINDOWS 17  /* draw at a time that the plan does not allow */
-#define LEGBARO_CHANGE_PENDING 18   /* change, ask or draw while a change is pending */
-#define LEGBARO_NONE_PENDING 19     /* commit or drop while none is */
-#define LEGBARO_TOO_MANY_DAMAGED 21 /* a sheet for more damaged rows than there are rows */
-#define LEGBARO_NO_RIGHT 22         /* there is no such role, or it may not make this call */
-#define LEGBARO_BAD_POOL                                                                           \
-    23 /* a pool of too few or too many files, or with a file id that
-                                         occurs twice */
-#define LEGBARO_BAD_GROUP                                                                          \
-    24                           /* a group of too few or too many blocks; a lost block that is
-                                         named twice or is not in the group */
-#define LEGBARO_TOO_MANY_LOST 25 /* more blocks are lost than the group has parity blocks */
+#define LEGBARO_WRONG_LENGTH 1        /* a buffer is not as long as the call asks */
+#define LEGBARO_WRONG_HEADER 2        /* version or size of card, message or reply; ask before 3 */
+#define LEGBARO_OUT_OF_LIMITS 3       /* a number, or a field, is outside its limits */
+#define LEGBARO_NO_SUCH_BLOCK 4       /* a block number is 0 or above n */
+#define LEGBARO_FILE_FULL 5           /* n would be more than LEGBARO_MOST_BLOCKS */
+#define LEGBARO_NO_TOKEN_LEFT 6       /* draw after the last token */
+#define LEGBARO_BAD_RECORD 7          /* unused records do not open; with the lowest such token */
+#define LEGBARO_TOKEN_OPEN 8          /* change, ask or draw while a drawn token is not judged */
+#define LEGBARO_NONE_OPEN 9           /* judge, singly or a pool, or cause, while none is drawn */
+#define LEGBARO_COUNTER_AT_MOST 10    /* change or ask at the last counter, LEGBARO_MOST_COUNTER */
+#define LEGBARO_REJECTED 11           /* judge: the reply does not prove possession */
+#define LEGBARO_NOT_WHOLE_BLOCKS 12   /* load of no bytes, or of a length that B does not divide */
+#define LEGBARO_TOO_MANY_POSITIONS 13 /* more positions than LEGBARO_MOST_POSITIONS */
+#define LEGBARO_BAD_BATCH 14          /* items: none, too many, cut, of no kind, not rising */
+#define LEGBARO_BAD_MARK 15           /* a mark is neither LEGBARO_LIVE nor LEGBARO_DELETED */
+#define LEGBARO_BAD_TIME 16           /* no such date or minute, or outside the limits */
+#define LEGBARO_OUTSIDE_WINDOWS 17    /* draw at a time that the plan does not allow */
+#define LEGBARO_CHANGE_PENDING 18     /* change, ask or draw while a change is pending */
+#define LEGBARO_NONE_PENDING 19       /* commit or drop while none is */
+#define LEGBARO_TOO_MANY_DAMAGED 21   /* a sheet for more damaged rows than there are rows */
+#define LEGBARO_NO_RIGHT 22           /* there is no such role, or it may not make this call */
+#define LEGBARO_BAD_POOL 23           /* too few or too many files, or an id that occurs twice */
+#define LEGBARO_BAD_GROUP 24          /* sizes of a group; a lost block twice or not in it */
+#define LEGBARO_TOO_MANY_LOST 25      /* more blocks are lost than the group has parity blocks */
 
 /* The two parts of a result: the code, and the number, which is a token with LEGBARO_BAD_RECORD. */
 #define LEGBARO_CODE(result) ((result) % 256)
@@ -253,39 +231,31 @@
 
 /* Why judge rejects a reply: the number that legbaro_cause gives, 0 for a reply that judge
  * accepts. */
-#define LEGBARO_CAUSE_SIZE 1 /* the reply has not LEGBARO_REPLY_BYTES */
-#define LEGBARO_CAUSE_HEADER                                                                       \
-    2 /* the length field or the version of the reply, or of the record in
-                                   it, is wrong */
-#define LEGBARO_CAUSE_NAME                                                                         \
-    3                           /* another file id, or another token in the reply or in the record,
-                                   than was drawn */
+#define LEGBARO_CAUSE_SIZE 1    /* the reply is not LEGBARO_REPLY_BYTES long */
+#define LEGBARO_CAUSE_HEADER 2  /* length field or version of the reply, or of its record */
+#define LEGBARO_CAUSE_NAME 3    /* file id, or token in reply or record, is not the one drawn */
 #define LEGBARO_CAUSE_COUNTER 4 /* the record was sealed at another counter than the card's */
 #define LEGBARO_CAUSE_TAG 5     /* the record's tag does not hold */
 #define LEGBARO_CAUSE_DIGEST 6  /* the digest is not the token that the record holds */
 
 /*
- * A card, for who wants to look into one: big-endian numbers, each at its offset. In front stands a
- * two-byte length of what follows, 41 or
- * 61. Only the library writes cards. The last three are in version 3 alone.
+ * A card, for callers that inspect one: big-endian numbers, each at its offset, after a two-byte
+ * length of what follows, 41 or 61. Only the library writes cards. The last three are in version 3
+ * alone.
  */
-#define LEGBARO_CARD_VERSION 2      /* 1 byte */
-#define LEGBARO_CARD_ID 3           /* 8 bytes: the file id */
-#define LEGBARO_CARD_BLOCK_BYTES 11 /* 2 bytes: B */
-#define LEGBARO_CARD_ROWS 13        /* 4 bytes: d */
-#define LEGBARO_CARD_POSITIONS 17   /* 2 bytes: r */
-#define LEGBARO_CARD_TOKENS 19      /* 4 bytes: t */
-#define LEGBARO_CARD_BLOCKS 23      /* 4 bytes: n, the number of blocks */
-#define LEGBARO_CARD_COUNTER                                                                       \
-    27                              /* 8 bytes: ctr, the counter of the change that stands; 0
-                                           after set-up */
-#define LEGBARO_CARD_NEXT 35        /* 4 bytes: the token to draw next, t + 1 after the last */
-#define LEGBARO_CARD_OPEN 39        /* 4 bytes: the token drawn and not judged, 0 for none */
-#define LEGBARO_CARD_LAST_ISSUED 43 /* 8 bytes: the last counter that a change or an ask took */
-#define LEGBARO_CARD_PENDING_COUNTER                                                               \
-    51                                 /* 8 bytes: the counter of the change that is pending, 0 for
-                                           none */
-#define LEGBARO_CARD_PENDING_BLOCKS 59 /* 4 bytes: the number of blocks after it, 0 for none */
+#define LEGBARO_CARD_VERSION 2          /* 1 byte */
+#define LEGBARO_CARD_ID 3               /* 8 bytes: the file id */
+#define LEGBARO_CARD_BLOCK_BYTES 11     /* 2 bytes: B */
+#define LEGBARO_CARD_ROWS 13            /* 4 bytes: d */
+#define LEGBARO_CARD_POSITIONS 17       /* 2 bytes: r */
+#define LEGBARO_CARD_TOKENS 19          /* 4 bytes: t */
+#define LEGBARO_CARD_BLOCKS 23          /* 4 bytes: n, the number of blocks */
+#define LEGBARO_CARD_COUNTER 27         /* 8 bytes: ctr, of the change that stands; 0 after set-up */
+#define LEGBARO_CARD_NEXT 35            /* 4 bytes: the token to draw next, t + 1 after the last */
+#define LEGBARO_CARD_OPEN 39            /* 4 bytes: the token drawn and not judged, 0 for none */
+#define LEGBARO_CARD_LAST_ISSUED 43     /* 8 bytes: the last counter that a change or ask took */
+#define LEGBARO_CARD_PENDING_COUNTER 51 /* 8 bytes: that of the pending change, 0 for none */
+#define LEGBARO_CARD_PENDING_BLOCKS 59  /* 4 bytes: the number of blocks after it, 0 for none */
 
 /* Totals: big-endian numbers, each at its offset. */
 #define LEGBARO_TOTALS_TURNS 0  /* 8 bytes */
