@@ -250,7 +250,7 @@
 #define LEGBARO_CARD_POSITIONS 17       /* 2 bytes: r */
 #define LEGBARO_CARD_TOKENS 19          /* 4 bytes: t */
 #define LEGBARO_CARD_BLOCKS 23          /* 4 bytes: n, the number of blocks */
-#define LEGBARO_CARD_COUNTER 27         /* 8 bytes: ctr, of the change that stands; 0 after set-up */
+#define LEGBARO_CARD_COUNTER 27         /* 8 bytes: ctr, of the change in place; 0 after set-up */
 #define LEGBARO_CARD_NEXT 35            /* 4 bytes: the token to draw next, t + 1 after the last */
 #define LEGBARO_CARD_OPEN 39            /* 4 bytes: the token drawn and not judged, 0 for none */
 #define LEGBARO_CARD_LAST_ISSUED 43     /* 8 bytes: the last counter that a change or ask took */
