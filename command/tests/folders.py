@@ -24,7 +24,7 @@ ASIDE = re.compile(r"\.\d+$")
 OWNER_NAMES = {"card", "card.sum", "change", "message", "committed", "journal"}
 HOST_NAMES = {"blocks", "marks", "table", "stands", "reply", "journal"}
 HALF = ("adding", "applying")  # files of a host that are there while a change is half in place
-# What the command before issue 38 lacks: refusals that leave every byte, of owner and host; the checksum of the card; the receipt of a commit;
+# What earlier commands lack: refusals that leave every byte, of owner and host; the checksum of the card; the receipt of a commit;
 # `judge` that leaves a draw open, and --close; `draw --again`; `show` that settles; a change that supersedes a damaged `applying`; outputs that
 # replace nothing else; the list of ids.
 LACKS = ("owner", "host", "checksum", "receipt", "close", "again", "show", "supersede", "outputs", "ids")
