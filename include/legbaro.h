@@ -23,7 +23,7 @@
  *   legbaro/planning.h   positions, sheet
  *   legbaro/parity.h     parity blocks of a file: encode, rebuild
  *
- * "SPEC 5.4" is section 5.4 of docs/SPEC.md, which defines every record and every call.
+ * "SPEC 5.4" is section 5.4 of docs/SPEC.md in the sources, which defines every record and call.
  */
 #ifndef LEGBARO_H
 #define LEGBARO_H
@@ -46,7 +46,8 @@
  *
  * The version of a file is fixed at set-up. Its card, token records, messages and replies have it.
  * In versions 2 and 3 each block has a mark, which is hashed with it (changes.h, MARKS). Version 3
- * also takes changes in two steps, and has a longer card. Use version 2 or 3 for a new file.
+ * also takes changes in two steps, and its card is longer, to keep what is pending. All else is as
+ * in version 2. Use version 2 or 3 for a new file.
  */
 #define LEGBARO_WITHOUT_MARKS 1
 #define LEGBARO_WITH_MARKS 2
@@ -66,8 +67,8 @@
  *
  * A role without permission, and a number that is no role, is refused with LEGBARO_NO_RIGHT before
  * any other check. That answer depends on the role and the call alone, and shows nothing of the
- * other arguments. A permitted call returns and writes the same in every role. The library does
- * not check who the caller is: the program that calls it does.
+ * other arguments. A permitted call returns and writes the same in every role. The library takes
+ * the role as given: the calling program must know who is at the screen, and in which role.
  */
 #define LEGBARO_SURVEYOR 1
 #define LEGBARO_PLANNER 2
@@ -76,8 +77,8 @@
 /*
  * BUFFERS. A buffer is a pointer and its length in bytes. The caller's duties, which nothing
  * checks:
- *   - The pointer has as many bytes to read as the length says. Where the call writes the buffer,
- *     they may be written too.
+ *   - The pointer has as many readable bytes as the length says, and they are writable where the
+ *     call writes the buffer.
  *   - The pointer is not null, for an empty buffer too.
  *   - No two buffers of one call overlap, and no other thread writes them during the call.
  * The library checks lengths. Any length may be passed, and a wrong one is refused.
@@ -101,12 +102,12 @@
 #define LEGBARO_SHEET_BYTES 40
 #define LEGBARO_POOLED_BYTES(files) (37 + 75 * (files)) /* a pooled reply of so many files */
 
-/* Limits. The least of each number is 1, but a counter starts at 0 and a pool has two files. */
+/* Limits. The least of each number is 1, but that of a counter is 0, and that of a pool 2 files. */
 #define LEGBARO_MOST_BLOCK_BYTES 4096 /* B */
 #define LEGBARO_MOST_ROWS 1048576     /* d */
 #define LEGBARO_MOST_POSITIONS 512    /* r, which is never above d */
 #define LEGBARO_MOST_TOKENS 65536     /* t */
-#define LEGBARO_MOST_BLOCKS 16777216  /* n, which may be below d or above */
+#define LEGBARO_MOST_BLOCKS 16777216  /* n, which may be below d, equal or above */
 #define LEGBARO_MOST_ITEMS 64         /* the items of a batch */
 #define LEGBARO_LEAST_POOLED 2        /* the files of a pooled reply */
 #define LEGBARO_MOST_POOLED 16
@@ -131,7 +132,7 @@
  */
 #define LEGBARO_OK 0
 #define LEGBARO_WRONG_LENGTH 1        /* a buffer is not as long as the call wants */
-#define LEGBARO_WRONG_HEADER 2        /* a record's version or length; an ask below version 3 */
+#define LEGBARO_WRONG_HEADER 2        /* wrong length field or version; an ask below version 3 */
 #define LEGBARO_OUT_OF_LIMITS 3       /* a number or a field is outside its limits */
 #define LEGBARO_NO_SUCH_BLOCK 4       /* a block number is 0 or above n */
 #define LEGBARO_FILE_FULL 5           /* n would be above LEGBARO_MOST_BLOCKS */
@@ -163,7 +164,7 @@
 /* Why judge rejects a reply: the number that legbaro_cause gives. It is 0 where judge accepts. */
 #define LEGBARO_CAUSE_SIZE 1    /* the reply is not LEGBARO_REPLY_BYTES long */
 #define LEGBARO_CAUSE_HEADER 2  /* length field or version of the reply, or of its record */
-#define LEGBARO_CAUSE_NAME 3    /* the file id, or a token number, is not the one drawn */
+#define LEGBARO_CAUSE_NAME 3    /* file id or token number, in reply or record, is another */
 #define LEGBARO_CAUSE_COUNTER 4 /* the record was sealed at another counter than the card's */
 #define LEGBARO_CAUSE_TAG 5     /* the record's tag does not hold */
 #define LEGBARO_CAUSE_DIGEST 6  /* the digest is not the token that the record holds */
@@ -203,8 +204,8 @@
 #define LEGBARO_CARD_PENDING_BLOCKS 59  /* 4 bytes: the number of blocks after it; 0 for none */
 
 /*
- * TOTALS. Hosts charge by work. Set-up, the proof and each change, asked or in one step, write how
- * much of it there was: two big-endian numbers, each at its offset.
+ * TOTALS. Hosts charge by what they compute. Set-up, the proof and each change, asked or in one
+ * step, write two big-endian numbers, each at its offset:
  *   turns     how often the eight rounds of the permutation were applied. A walk takes one turn or
  *             more. It leads from a position to the row that it draws, or from a row back to its
  *             position

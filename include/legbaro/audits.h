@@ -29,9 +29,9 @@ extern "C" {
  *   plan       LEGBARO_PLAN_BYTES: the weekly schedule
  *   year, month, day, minute   the time now
  *
- * The message holds the keys of this token and of no other. Until the reply is judged, every
- * change, ask and further draw is refused with 8. While a change is pending, a draw is refused with
- * 18: commit or drop the change first.
+ * The message holds the keys of this token and of no other. Until the reply is judged, no change,
+ * no ask and no further draw is accepted (8). While a change is pending nothing is drawn (18):
+ * commit or drop the change first.
  *
  * PLAN. A host reads slowly while shops trade, so draws have weekly windows. For each weekday,
  * Monday first, the plan holds the minute at which its window opens and the minute at which it
@@ -107,8 +107,8 @@ uint64_t legbaro_judge(uint64_t role,
  *   LEGBARO_CAUSE_NAME      This answers another message or is for another file, or it has another
  *                           token's record. Answer the message drawn last, from this file's table.
  *   LEGBARO_CAUSE_COUNTER   The table is older than the last change, or is that of a change that
- *                           was refused or dropped. Use the standing table: the one sent last or,
- *                           with changes in two steps, the one committed last.
+ *                           was not kept or was dropped. Use the standing table: the one sent last
+ *                           or, with changes in two steps, the one committed last.
  *   LEGBARO_CAUSE_TAG       The token's record was altered. Use a copy of the standing table. Where
  *                           the replies for all files have this cause, the owner has given another
  *                           master key.

@@ -5,7 +5,7 @@
  *   legbaro_update, _delete, _append, _load, _batch
  *                                   change a file in one step
  *   legbaro_ask_update .. _batch    ask for the same five changes; version 3 only
- *   legbaro_commit, legbaro_drop    take a pending change over, or discard it
+ *   legbaro_commit, legbaro_drop    make a pending change final, or discard it
  */
 #ifndef LEGBARO_CHANGES_H
 #define LEGBARO_CHANGES_H
@@ -30,7 +30,8 @@ extern "C" {
  *                                          life of the file
  *   blocks_count   n: the number of blocks now, from 1
  *   blocks     blocks_count * block_bytes: the first blocks, end to end; all of them live
- *   card       of the file's version, written: counter 0, next 1, none open, none pending
+ *   card       of the file's version, written: the numbers above, counter 0, next 1, none open,
+ *              none pending
  *   table      tokens * LEGBARO_RECORD_BYTES, written
  *   totals     LEGBARO_TOTALS_BYTES, written: one walk from each position of each token, and a hash
  *              of each block in the rows drawn. They stay with the owner
@@ -62,7 +63,8 @@ uint64_t legbaro_set_up(const uint8_t *master, size_t master_length,
  *   role       LEGBARO_PLANNER; for append and load, in one step or asked, LEGBARO_SURVEYOR too
  *   master     LEGBARO_MASTER_BYTES
  *   card       of the file's version, written
- *   table      t * LEGBARO_RECORD_BYTES: the standing table; written in one step, not by an ask
+ *   table      t * LEGBARO_RECORD_BYTES: the standing table, which is that of the last change made
+ *              in one step or committed, or of set-up. Written in one step, not by an ask
  *   totals     LEGBARO_TOTALS_BYTES, written
  *
  * The owner also sends the changed blocks and marks to the host, which puts them in their places.
@@ -220,7 +222,7 @@ uint64_t legbaro_batch(uint64_t role,
  * again.
  *
  * Each ask takes a counter that no ask or change took before it, dropped asks included. While a
- * change is pending, every ask, every change in one step and every draw is refused with 18.
+ * change is pending, no other ask, no change in one step and no draw is accepted (18).
  *
  * Every ask takes the arguments of the change in one step, and one more after the table:
  *
@@ -319,7 +321,7 @@ uint64_t legbaro_ask_batch(uint64_t role,
  *   role       LEGBARO_PLANNER
  *   card       LEGBARO_TWO_STEP_CARD_BYTES, written
  *
- * Codes: 22, 1, 2, 3, 19. A card of version 1 or 2 has nothing pending: 19.
+ * Codes: 22, 1 (card), 2, 3, 19. A card of version 1 or 2 has nothing pending: 19.
  */
 uint64_t legbaro_commit(uint64_t role, uint8_t *card, size_t card_length);
 
@@ -331,7 +333,7 @@ uint64_t legbaro_commit(uint64_t role, uint8_t *card, size_t card_length);
  *   role       LEGBARO_PLANNER
  *   card       LEGBARO_TWO_STEP_CARD_BYTES, written: nothing is pending any more
  *
- * Codes: 22, 1, 2, 3, 19. A card of version 1 or 2 has nothing pending: 19.
+ * Codes: 22, 1 (card), 2, 3, 19. A card of version 1 or 2 has nothing pending: 19.
  */
 uint64_t legbaro_drop(uint64_t role, uint8_t *card, size_t card_length);
 

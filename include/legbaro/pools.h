@@ -41,8 +41,8 @@ extern "C" {
  *
  * WHAT IT SHOWS. A pooled reply holds the record of each file, and in place of the digests their
  * xor. That is less than the single replies show. Where two digests differ from the correct ones in
- * the same bits, the differences cancel and the reply is accepted. So it is with three or more,
- * where all differences together cancel. A lost or altered block does not come to that by chance,
+ * the same bits, the differences cancel and the reply is accepted. The same holds of three or more
+ * digests whose differences together cancel. A lost or altered block does not cause that by chance,
  * but the host makes the digests and could choose them so. For that it needs the xor of the correct
  * digests, and not each of them. So an accepted pooled reply shows that the host could compute the
  * xor of all tokens drawn. It does not show that the host could compute each. Where that matters,
@@ -51,10 +51,9 @@ extern "C" {
  * A rejection does not say which file it was, and every draw is closed. Draw those files again, and
  * judge their replies singly.
  *
- * Codes: 22, then 2 and 1 while the cards are cut, then 1 (master), 2 (any card), 3 (any card), 23
- * (number of cards, or a file id twice), 9 (any card has no token open), then the verdict 0 or 11.
- * The cards are cut from the first one on. Code 2 is a length field that is not a card's. Code 1 is
- * a rest that is shorter than a length field, or than the card that its length field announces.
+ * Codes: 22; for each card in turn 1 (less is left than a length field), 2 (the length field is not
+ * a card's), 1 (less is left than that card); then 1 (master), 2 (any card), 3 (any card), 23
+ * (number of cards, or a file id twice), 9 (any card has no token open), and the verdict 0 or 11.
  */
 uint64_t legbaro_judge_pool(uint64_t role,
                             const uint8_t *master, size_t master_length,
@@ -62,9 +61,9 @@ uint64_t legbaro_judge_pool(uint64_t role,
                             const uint8_t *reply, size_t reply_length);
 
 /*
- * Pool, the host's call: makes one pooled reply of several replies. The call is a convenience for
- * hosts: the papers fix the layout of a pooled reply (SPEC 6.7) and not how it is made. The call
- * and its codes are our choice, and a host may build the same bytes itself.
+ * Pool, the host's call: makes one pooled reply of several replies. It is a convenience for hosts.
+ * The scheme's papers fix the layout of a pooled reply (SPEC 6.7), and no call that makes one. This
+ * call and its codes are our choice. A host may build the same bytes itself.
  *
  *   replies    LEGBARO_LEAST_POOLED to LEGBARO_MOST_POOLED replies end to end, of
  *              LEGBARO_REPLY_BYTES each, as legbaro_prove wrote them, in the order of the owner's
@@ -74,9 +73,9 @@ uint64_t legbaro_judge_pool(uint64_t role,
  * It needs no key, and checks lengths and versions alone: replies that legbaro_judge would reject
  * are pooled too, and so are two for one file.
  *
- * Let legbaro_judge accept each of these replies on its card, and let the cards have different file
- * ids. Then legbaro_judge_pool accepts the pooled reply with these cards in this order. Where two
- * cards have one file id, it refuses them with 23.
+ * If legbaro_judge would accept each of these replies on its card, and no two cards have one file
+ * id, then legbaro_judge_pool accepts the pooled reply on these cards in this order. Two cards with
+ * one file id are refused there with 23.
  *
  * Codes: 1 (replies: not a multiple of LEGBARO_REPLY_BYTES), 2 (any reply's length field or
  * version), 23 (too few or too many replies), 1 (pooled).
