@@ -38,9 +38,8 @@ extern "C" {
  *
  * rows is what the file is planned for. blocks_count may be less, equal or more: rows above it are
  * empty, and blocks above rows lie in further columns. With fewer blocks than rows take positions
- * from legbaro_positions.
- *
- * A master key and id must be set up once only (legbaro.h, KEYS AND CARDS).
+ * from legbaro_positions. Never set up the same master key and id twice (legbaro.h, KEYS AND
+ * CARDS).
  *
  * Codes: 1 (master, id, card, totals), 3, 1 (card, blocks, table). A card of another version's size
  * gives the later 1.
@@ -233,11 +232,11 @@ uint64_t legbaro_batch(uint64_t role,
  * blocks. Until the commit the table, n and the counter stay as they are, byte for byte, and so do
  * the file's blocks.
  *
- * An ask from an older card would take the same counter, and seal other tokens under the same
- * nonces: never use one.
+ * Never ask from an older card: it would take the same counter, and seal other tokens under the
+ * same nonces.
  *
- * The codes are those of the change in one step, in the same order. Code 2 is also a card of
- * version 1 or 2. The later 1 also looks at second.
+ * The checks are those of the change in one step, in the same order. Code 2 is also a card of
+ * version 1 or 2.
  */
 
 /*
