@@ -1,4 +1,4 @@
--- What is asked of every item of a batch, in a loop from its front: what is itemsLeft to ask. Assumes nothing.
+-- What is asked of every item of a batch, in a loop from its front: what is left to ask. Assumes nothing.
 --   itemsLeft                               the items from one on
 --   all-begun, all-failed, all-next, all-done   a test of every item; all-each: where it holds, of each
 --   within-low, within-high            a test of limits, from 1 on, that fails

@@ -1,5 +1,5 @@
--- Lists tabulate of a function, and what blocks laid end to end hold. Assumes nothing.
---   made-length, getD-made, made-of, made-same   a list is tabulate of f where it holds f's values
+-- Lists tabulated from a function, and what blocks laid end to end hold. Assumes nothing.
+--   made-length, getD-made, made-of, made-same   a list is tabulated from f where it holds f's values
 --   Filled, filled-more, filled-made     one more block is in place
 --   map-at                               an element of a map
 --   map-same                             two functions that agree where they are asked

@@ -1,4 +1,4 @@
--- What is itemsLeft to ask stays, item by item, by all-next.
+-- What is left to ask stays, item by item, by all-next.
 use borrow.Author.Needs.{needs}
 use borrow.Author.Tests.{not-true, not-false}
 use native.Mathlib.Omega.{arith}

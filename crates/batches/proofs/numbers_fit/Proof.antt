@@ -1,4 +1,4 @@
--- What is itemsLeft to ask stays, item by item, by all-next.
+-- What is left to ask stays, item by item, by all-next.
 use borrow.Author.Needs.{needs}
 use native.Mathlib.Omega.{arith}
 use Prim.Native.Nat.{_-_, _≤_}

@@ -1,4 +1,4 @@
--- What is itemsLeft to ask stays, item by item, by rise-next.
+-- What is left to ask stays, item by item, by rise-next.
 use borrow.Author.Needs.{needs}
 use native.Mathlib.Omega.{arith}
 use Prim.Native.Nat.{ℕ, _+_, _-_, _≤_}

@@ -95,7 +95,7 @@ module _ (P : Primitives) (master card table second : List ℕ) (change : Change
 
   pub record OneStep : Type 0 where
     pub number : askCode P master card table second change totals ≡ changeCode P master card table change totals
-    pub changes : askTotals P master card table second change totals ≡ changeTotals P master card table change totals
+    pub totals′ : askTotals P master card table second change totals ≡ changeTotals P master card table change totals
     pub table′ : changeCode P master card table change totals ≡ 0 → askSecond P master card table second change totals ≡ changeTable P master card table change totals
     pub commits : changeCode P master card table change totals ≡ 0 → settleCode (askCard P master card table second change totals) ≡ 0
     pub card′ : changeCode P master card table change totals ≡ 0 → commitCard (askCard P master card table second change totals) ≡ changeCard P master card table change totals
@@ -111,7 +111,7 @@ module _ (P : Primitives) (master card table second : List ℕ) (change : Change
     pub one-step : OneStep
     one-step = record {
       number = same-number;
-      changes = unfold askTotals changeTotals in rw same-number;
+      totals′ = unfold askTotals changeTotals in rw same-number;
       table′ = λ e. unfold askSecond changeTable in rw (same-number, e);
       commits = λ e. unfold askCard in rw (same-number, e) (settles (same-number ∙ e));
       card′ = λ e. unfold commitCard askCard changeCard changedCard in rw (same-number, e, settles (same-number ∙ e), order-back (askedCard c n) (ordered (same-number ∙ e)));

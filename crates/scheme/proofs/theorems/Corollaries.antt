@@ -291,41 +291,41 @@ module _ (P : Primitives) (master id : List ℕ) (v B d r t n : ℕ) (blocks car
       let e = permitted role mayJudge (judgeCode P master (ran .card) reply) 22 may in
       (λ h. j .0 (sym e ∙ h), λ h. e ∙ j .1 h)
 
-  host-plain : (buffer plan space changes : List ℕ) (now : Moment) → drawCode P master (ran .card) buffer plan now ≡ 0 → length space ≡ 110 → length changes ≡ 16
+  host-plain : (buffer plan space totals′ : List ℕ) (now : Moment) → drawCode P master (ran .card) buffer plan now ≡ 0 → length space ≡ 110 → length totals′ ≡ 16
       → let message = drawMessage P master (ran .card) buffer plan now in
       let bytes = bytesOf (book .version) (book .blocks) in
       let marks = marksOf (book .version) (book .blocks) in
-      (proveCode P message bytes marks (ran .table) space changes ≡ 0)
-      × (judgeCode P master (drawCard P master (ran .card) buffer plan now) (proveReply P message bytes marks (ran .table) space changes) ≡ 0)
-  host-plain buffer plan space changes now h l w =
+      (proveCode P message bytes marks (ran .table) space totals′ ≡ 0)
+      × (judgeCode P master (drawCard P master (ran .card) buffer plan now) (proveReply P message bytes marks (ran .table) space totals′) ≡ 0)
+  host-plain buffer plan space totals′ now h l w =
       let k : drawCode P (book .key) (cardBytes (bookCard book)) buffer plan now ≡ 0 = ap₂ (λ (x y : List ℕ). drawCode P x y buffer plan now) key (sym card-left) ∙ h in
-      let r = hosted P book good buffer plan now k space changes l w in
+      let r = hosted P book good buffer plan now k space totals′ l w in
       let m : drawMessage P master (ran .card) buffer plan now ≡ drawMessage P (book .key) (cardBytes (bookCard book)) buffer plan now =
       ap₂ (λ (x y : List ℕ). drawMessage P x y buffer plan now) (sym key) card-left in
       let c : drawCard P master (ran .card) buffer plan now ≡ drawCard P (book .key) (cardBytes (bookCard book)) buffer plan now =
       ap₂ (λ (x y : List ℕ). drawCard P x y buffer plan now) (sym key) card-left in
       let bytes = bytesOf (book .version) (book .blocks) in
       let marks = marksOf (book .version) (book .blocks) in (
-        ap₂ (λ (x y : List ℕ). proveCode P x bytes marks y space changes) m table-left ∙ r .0,
-        ap₂ (λ (x y : List ℕ). judgeCode P x y (proveReply P (drawMessage P master (ran .card) buffer plan now) bytes marks (ran .table) space changes)) (sym key) c
+        ap₂ (λ (x y : List ℕ). proveCode P x bytes marks y space totals′) m table-left ∙ r .0,
+        ap₂ (λ (x y : List ℕ). judgeCode P x y (proveReply P (drawMessage P master (ran .card) buffer plan now) bytes marks (ran .table) space totals′)) (sym key) c
             ∙ ap₂ (λ (x y : List ℕ). judgeCode P (book .key) (drawCard P (book .key) (cardBytes (bookCard book)) buffer plan now)
-            (proveReply P x bytes marks y space changes)) m table-left
+            (proveReply P x bytes marks y space totals′)) m table-left
             ∙ r .1,
       )
 
   -- drawn and judged by roles that may: a draw that gives 0 was permitted
-  pub host-accepted : (drawer judger : ℕ) → permits judger mayJudge ≡ true → (buffer plan space changes : List ℕ) (now : Moment)
-      → under drawer mayDraw (drawCode P master (ran .card) buffer plan now) 22 ≡ 0 → length space ≡ 110 → length changes ≡ 16
+  pub host-accepted : (drawer judger : ℕ) → permits judger mayJudge ≡ true → (buffer plan space totals′ : List ℕ) (now : Moment)
+      → under drawer mayDraw (drawCode P master (ran .card) buffer plan now) 22 ≡ 0 → length space ≡ 110 → length totals′ ≡ 16
       → let message = under drawer mayDraw (drawMessage P master (ran .card) buffer plan now) buffer in
       let drawn = under drawer mayDraw (drawCard P master (ran .card) buffer plan now) (ran .card) in
       let bytes = bytesOf (book .version) (book .blocks) in
       let marks = marksOf (book .version) (book .blocks) in
-      (proveCode P message bytes marks (ran .table) space changes ≡ 0)
-      × (under judger mayJudge (judgeCode P master drawn (proveReply P message bytes marks (ran .table) space changes)) 22 ≡ 0)
-  host-accepted drawer judger may buffer plan space changes now h l w =
+      (proveCode P message bytes marks (ran .table) space totals′ ≡ 0)
+      × (under judger mayJudge (judgeCode P master drawn (proveReply P message bytes marks (ran .table) space totals′)) 22 ≡ 0)
+  host-accepted drawer judger may buffer plan space totals′ now h l w =
       let may₀ = zero-permitted drawer mayDraw (drawCode P master (ran .card) buffer plan now) h in
       let k = sym (permitted drawer mayDraw (drawCode P master (ran .card) buffer plan now) 22 may₀) ∙ h in
-      let r = host-plain buffer plan space changes now k l w in
+      let r = host-plain buffer plan space totals′ now k l w in
       rw (
         permitted drawer mayDraw (drawMessage P master (ran .card) buffer plan now) buffer may₀,
         permitted drawer mayDraw (drawCard P master (ran .card) buffer plan now) (ran .card) may₀,

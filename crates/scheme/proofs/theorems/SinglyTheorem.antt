@@ -1,4 +1,4 @@
--- One change of several blocks beside changes tokenAfter singly: the tokens tokenAt are the same; only the counter and the sealing differ. Assumes nothing.
+-- One change of several blocks beside changes made singly: the tokens inside are the same; only the counter and the sealing differ. Assumes nothing.
 --   calls, AllAccepted          changes as calls of their own, all accepted
 --   changesSingly, cardAfter       the block changes that they make together, and the card after them
 --   Alike, alike                what is the same, of any change that makes the same block changes
@@ -45,7 +45,7 @@ abbrev pub AllAccepted : List ℕ → Type 0
 AllAccepted [] = Unit {0}
 AllAccepted (n ∷ ns) = (n ≡ 0) × AllAccepted ns
 
--- the card after changes tokenAfter one after the other
+-- the card after changes made one after the other
 unfoldable pub cardAfter : Card → List Change → Card
 cardAfter c [] = c
 cardAfter c (e ∷ es) = cardAfter (changedCard c (blocksAfter c e)) es
@@ -99,13 +99,13 @@ apart c n x y h =
     end true = refl
     end false = refl
 
--- what is the same of card and table after one change, `one` and `change-leaves`, and after several tokenAfter singly
-pub record Alike (P : Primitives) (master card table : List ℕ) (single : Ran) (one change-leaves : List ℕ) (count : ℕ) : Type 0 where
-  pub opens : (i : ℕ) → (readCard card) .next ≤ i → i ≤ (readCard card) .t → there (tokenAt P master (readCard one) change-leaves i) ≡ true
+-- what is the same of card and table after one change, `one` and `after`, and after several made singly
+pub record Alike (P : Primitives) (master card table : List ℕ) (single : Ran) (one after : List ℕ) (count : ℕ) : Type 0 where
+  pub opens : (i : ℕ) → (readCard card) .next ≤ i → i ≤ (readCard card) .t → there (tokenAt P master (readCard one) after i) ≡ true
   pub tokens : (i : ℕ) → (readCard card) .next ≤ i → i ≤ (readCard card) .t
-      → tokenAt P master (readCard one) change-leaves i ≡ tokenAt P master (readCard (single .card)) (single .table) i
-  pub long : length change-leaves ≡ length (single .table)
-  pub spent : take (((readCard card) .next - 1) * 63) change-leaves ≡ take (((readCard card) .next - 1) * 63) (single .table)
+      → tokenAt P master (readCard one) after i ≡ tokenAt P master (readCard (single .card)) (single .table) i
+  pub long : length after ≡ length (single .table)
+  pub spent : take (((readCard card) .next - 1) * 63) after ≡ take (((readCard card) .next - 1) * 63) (single .table)
   pub front : take 27 one ≡ take 27 (single .card)
   pub between : part 35 8 one ≡ part 35 8 (single .card)
   pub behind : drop 51 one ≡ drop 51 (single .card)
@@ -113,7 +113,7 @@ pub record Alike (P : Primitives) (master card table : List ℕ) (single : Ran) 
   pub manySteps : ((readCard (single .card)) .ctr ≡ (readCard card) .last + count) × ((readCard (single .card)) .last ≡ (readCard card) .last + count)
 
 module _ (P : Primitives) (role : ℕ) (master totals asked : List ℕ) where
-  -- what changes tokenAfter singly leave
+  -- what changes made singly leave
   abbrev ran : List Change → List ℕ → List ℕ → Ran
   ran es card table = run P (calls role master totals es) card table asked
 
@@ -303,7 +303,7 @@ module _ (P : Primitives) (role : ℕ) (master card table asked blocks totals : 
 abbrev pub itemEdit : Item → Change
 itemEdit x = cond (eqb (x .kind) 1) (update (x .number) (x .old) (x .mark) (x .new)) (delete (x .number) (x .old) (x .mark))
 
--- "the same changes tokenAfter singly"
+-- "the same changes made singly"
 abbrev pub corrections : List Item → List Change
 corrections [] = []
 corrections (x ∷ xs) = itemEdit x ∷ corrections xs
@@ -341,7 +341,7 @@ corrected-many : (xs : List Item) → length (corrections xs) ≡ length xs
 corrected-many [] = refl
 corrected-many (x ∷ xs) = ap suc (corrected-many xs)
 
--- "The tokens tokenAt equal those after the same changes tokenAfter singly, where all those are accepted; only the counter and sealing differ"
+-- "The tokens inside equal those after the same changes made singly, where all those are accepted; only the counter and sealing differ"
 pub batch-singly : (P : Primitives) (role : ℕ) (master card table asked items totals : List ℕ) → batchCode P master card table items totals ≡ 0
     → AllAccepted ((run P (calls role master totals (corrections (itemsOf (readCard card) items))) card table asked) .numbers)
     → Alike P master card table (run P (calls role master totals (corrections (itemsOf (readCard card) items))) card table asked)
