@@ -1,6 +1,9 @@
 // Who may do what: the calls that take a card, the roles that may make each, and each call under a role. A role that may not make a call gets 22,
 // before every other check, and every buffer stays as it was; for one that may, roles change nothing.
 // Every function equals a definition of the scheme's Roles, or one of the scheme under a role. Nothing is assumed.
+
+#![tactic(auto)]
+
 ghost use Rattle.std.specs.Prelude.{◌≡◌, [], ◌∷◌, List, ℕ};
 ghost use Rattle.counts.specs.Codes.{not_permitted};
 ghost use Rattle.scheme.specs.Roles as R;

@@ -1,6 +1,9 @@
 // Changes in two steps: an ask, which writes a second table and its totals and leaves the first table, and then a commit or a drop, which are
 // lent the card alone.
 // A call that is turned away leaves every buffer. Every function equals a definition of the scheme's Asks at the standard primitives. Nothing is assumed.
+
+#![tactic(auto)]
+
 ghost use Rattle.std.specs.Prelude.{◌≡◌};
 ghost use Rattle.scheme.specs.Checks.{first};
 ghost use Rattle.scheme.specs.Asks as S;

@@ -1,6 +1,9 @@
 // The items of a batch: read where they lie, and checked. An item is a kind, the number of a block, its old block with its mark behind it, none in
 // version 1, and its new block.
 // Every function equals a definition of the scheme's Batches or of specs/. Nothing is assumed.
+
+#![tactic(auto)]
+
 ghost use Rattle.std.specs.Prelude.{◌≡◌, [], ◌∷◌, ◌+◌, ◌*◌, ◌≤◌, ◌<◌, eqb, length, take};
 ghost use Rattle.counts.specs.Limits.{most_block_bytes, most_items};
 ghost use Rattle.scheme.specs.Checks.{first, within};

@@ -1,5 +1,8 @@
 // The block changes of a call where they lie: the number of each one's block, and the hashes of what is handed over of it.
 // Every function equals a definition of specs/ or of the scheme's Tokens at the standard primitives. Nothing is assumed.
+
+#![tactic(auto)]
+
 ghost use Rattle.std.specs.Prelude.{◌≡◌, List, [], ◌∷◌, ◌++◌, true, ℕ, ◌+◌, ◌≤◌, ◌<◌, length, take, replicate};
 ghost use Rattle.octets.specs.Octets.{part, xors};
 ghost use Rattle.counts.specs.Limits.{most_block_bytes, most_blocks};

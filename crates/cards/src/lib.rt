@@ -1,6 +1,9 @@
 // The card of a file: read from its bytes, checked and written, and what each call makes of it.
 // Every function equals a definition of the scheme's Records, Calls or Changes. Nothing is assumed.
 // A card has 43 bytes, in version 3 another 20 behind them: what is told of asks.
+
+#![tactic(auto)]
+
 ghost use Rattle.std.specs.Prelude.{◌≡◌, ◌++◌, cond, ◌&&◌, ◌||◌, ◌+◌, ◌-◌, ◌≤◌, ◌<◌, eqb, length, get_or};
 ghost use Rattle.octets.specs.Octets.{be, of_be, part, put};
 ghost use Rattle.counts.specs.Sizes.{card_size, two_step_card_size};

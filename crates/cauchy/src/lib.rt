@@ -1,5 +1,8 @@
 // Solving for unknown data bytes from parity bytes, by elimination without a matrix: the weights of a parity byte follow from the numbers alone.
 // Every function equals a definition of specs/Solve. Nothing is assumed.
+
+#![tactic(auto)]
+
 ghost use Rattle.std.specs.Prelude.{◌≡◌, ◌∷◌, map, ℕ, length};
 ghost use Rattle.gf256.specs.Tables.{powers, Logged};
 ghost use Rattle.cauchy.specs.Solve.{weight, row, reduced_one, reduced, unscaled_one, unscaled, solve};

@@ -2,6 +2,9 @@
 // Over a table of the round function the walks go side by side: each takes its first turn, then all that are not below d take one more, and so on. A walk
 // alone waits for each turn before it knows whether there is another; side by side the processor is busy with one while it waits for others.
 // Where the turns alone are asked for, no walk remembers where it began, and four go at once.
+
+#![tactic(auto)]
+
 ghost use Rattle.std.specs.Prelude.{◌≡◌, cond, List, ℕ, ◌+◌, ◌%◌, ◌^◌, ◌≤◌, ◌<◌, leb, length, take, get_or};
 ghost use Rattle.permutation.specs.Rounds.{half};
 ghost use Rattle.permutation.specs.Table.{Whole, Tabled};

@@ -2,6 +2,9 @@
 // its totals. Blocks are hashed position by position, in a row from the newest column back to the oldest, and several at once, each with its
 // mark before it where it has one.
 // Every function equals a definition of specs/ or of the scheme's Tokens and Totals at the standard primitives. Nothing is assumed.
+
+#![tactic(auto)]
+
 ghost use Rattle.std.specs.Prelude.{◌≡◌, [], ◌∷◌, ◌+◌, ◌*◌, ◌^◌, ◌≤◌, ◌<◌, length, take};
 ghost use Rattle.octets.specs.Octets.{xors, part};
 ghost use Rattle.counts.specs.Limits.{most_positions, most_blocks};

@@ -1,5 +1,8 @@
 // Groups of data and parity blocks: parity blocks from data blocks, and lost data blocks from those that are left.
 // Every function equals what specs/Group defines, at every place of a block. Nothing is assumed.
+
+#![tactic(auto)]
+
 ghost use Rattle.std.specs.Prelude.{◌≡◌, [], ◌∷◌, map, ℕ, ◌+◌, ◌*◌, ◌/◌, ◌%◌, ◌<◌, ◌≤◌, length, replicate};
 ghost use Rattle.gf256.specs.Tables.{powers, Logged};
 ghost use Rattle.cauchy.specs.Solve.{row};

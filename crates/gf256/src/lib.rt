@@ -1,6 +1,9 @@
 // The field of 256 elements with polynomial 0x11D: products and inverses by a table of 512 powers of 2 and a table of their logarithms, and a weighed
 // block added to another, or to two at once. The tables are lent on, so that no loop stores them anew; the rule of doubling is proved once over the table of powers.
 // Every function equals a definition of specs/Field or specs/Mixing. Nothing is assumed.
+
+#![tactic(auto)]
+
 mod tables;
 
 ghost use Rattle.std.specs.Prelude.{◌≡◌, ◌*◌, ◌<◌, ◌≤◌, length};

@@ -2,6 +2,9 @@
 // one of sixteen places, and when the last is taken all are hashed side by side. Of a longer message a place has only the first 64 bytes and what is
 // behind the last whole block of 64: those between are hashed where they lie.
 // Every function equals a definition of specs/ over SHA-256. Nothing is assumed.
+
+#![tactic(auto)]
+
 ghost use Rattle.std.specs.Prelude.{◌≡◌, List, ◌++◌, ℕ, ◌+◌, ◌≤◌, ◌<◌, length, get_or};
 ghost use Rattle.octets.specs.Octets.{xors};
 ghost use Rattle.sha256.specs.Sha256 as S;

@@ -1,5 +1,8 @@
 // The calls that judge a host's reply, and that say why it is rejected. A call that is turned away leaves every buffer.
 // Every function equals a definition of the scheme's Calls or Judging at the standard primitives. Nothing is assumed.
+
+#![tactic(auto)]
+
 ghost use Rattle.std.specs.Prelude.{◌≡◌, true, ◌&&◌, ◌≤◌, eqb, length, drop};
 ghost use Rattle.octets.specs.Octets as O;
 ghost use Rattle.octets.specs.Octets.{of_be, part};

@@ -2,6 +2,9 @@
 // numbers alone.
 // Every function equals a definition of the scheme's Calls or of specs/Sheet; specs/Exact and proofs/Theorems say what a sheet's numbers mean.
 // Nothing is assumed.
+
+#![tactic(auto)]
+
 ghost use Rattle.std.specs.Prelude.{◌≡◌, ◌&&◌, ◌≤◌, min, ◌<◌, ◌^◌, ◌++◌, length};
 ghost use Rattle.scheme.specs.Calls as C;
 ghost use Rattle.scheme.specs.Checks.{within};

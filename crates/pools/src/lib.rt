@@ -1,6 +1,9 @@
 // The call that judges a pooled reply on the cards of several files. A call that is turned away leaves every buffer.
 // Every function equals a definition of the scheme's Pools at the standard primitives. Nothing is assumed.
 // Cards lie end to end and are walked by their length fields, from the front, once for each thing that is asked of all of them.
+
+#![tactic(auto)]
+
 ghost use Rattle.std.specs.Prelude.{◌≡◌, true, ◌&&◌, ◌+◌, ◌*◌, ◌≤◌, eqb, length, get_or, drop, replicate};
 ghost use Rattle.octets.specs.Octets.{of_be, part};
 ghost use Rattle.octets.specs.Octets as O;

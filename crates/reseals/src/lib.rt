@@ -2,6 +2,9 @@
 // issued; and the turns and block hashes that all of them take.
 // Every function equals a definition of specs/ or of the scheme's Table and Totals at the standard primitives. Nothing is assumed.
 // The scratch space of a token is made once a call and lent to every token; a block change that comes alone needs none.
+
+#![tactic(auto)]
+
 ghost use Rattle.std.specs.Prelude.{◌≡◌, true, false, List, ℕ, ◌+◌, ◌*◌, ◌-◌, ◌≤◌, ◌<◌, length};
 ghost use Rattle.octets.specs.Octets.{put};
 ghost use Rattle.counts.specs.Sizes.{record_size};

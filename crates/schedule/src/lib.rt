@@ -1,6 +1,9 @@
 // Draws in closing hours (request #106): the weekday of a date, a centre's weekly plan of windows that allow draws, and the wait for the
 // first allowed minute. Every function equals a definition of specs/. Nothing is assumed.
 // A plan is 28 bytes: for each weekday from Monday the start and the end minute of its window, two bytes each, big-endian.
+
+#![tactic(auto)]
+
 ghost use Rattle.std.specs.Prelude.{◌≡◌, true, ◌≤◌, ◌<◌, ◌^◌, length};
 ghost use Rattle.counts.specs.Sizes.{plan_size};
 ghost use Rattle.counts.specs.Limits.{day_minutes, week_minutes};

@@ -1,5 +1,8 @@
 // The call that founds a file: set-up, which writes its card, its table and its totals. A set-up that is turned away leaves all three.
 // Every function equals a definition of the scheme's Calls at the standard primitives. Nothing is assumed.
+
+#![tactic(auto)]
+
 ghost use Rattle.std.specs.Prelude.{◌≡◌, ◌&&◌, ◌+◌, ◌*◌, ◌≤◌, ◌<◌, eqb, length};
 ghost use Rattle.counts.specs.Sizes.{master_size, id_size, record_size, totals_size};
 ghost use Rattle.counts.specs.Limits.{most_block_bytes, most_rows, most_positions, most_tokens, most_blocks};

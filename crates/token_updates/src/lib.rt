@@ -5,6 +5,9 @@
 // round function, where that is quicker by the number of blocks, and what is drawn is hashed as hash_queue takes it. Where such a table stands and
 // very many blocks are added, those drawn are found by walks forward from the positions, as set-up finds them, and the walks back are
 // counted alone. The turns of the walks back are told, and the hashes of contents; neither what fills the table nor the walks forward.
+
+#![tactic(auto)]
+
 ghost use Rattle.std.specs.Prelude.{◌≡◌, List, true, false, ℕ, ◌+◌, ◌*◌, ◌-◌, ◌≤◌, ◌<◌, length, get_or};
 ghost use Rattle.chacha20.specs.ChaCha20.{key_words};
 ghost use Rattle.permutation.specs.Rounds.{half};
