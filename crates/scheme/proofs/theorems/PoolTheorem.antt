@@ -193,13 +193,13 @@ module _ (P : Primitives) (master : List ℕ) where
     beyond : drop 75 entry ≡ rest
     beyond = its-rest (part 3 12 x) (part 47 63 x) rest names-long record-long
 
-  all_pass : (cs : List Card) (xs : List (List ℕ)) → AllAccepted cs xs → all_pass P master cs (entries xs) ≡ true
+  all-pass : (cs : List Card) (xs : List (List ℕ)) → AllAccepted cs xs → all_pass P master cs (entries xs) ≡ true
   unfolding all_pass entries
-  all_pass [] [] a = refl
-  all_pass [] (x ∷ xs) a = absurd a
-  all_pass (c ∷ cs) [] a = absurd a
-  all_pass (c ∷ cs) (x ∷ xs) a =
-      pair _ _ (one c x (entries xs) a.0).0 (ap (all_pass P master cs) (beyond c x (entries xs) a.0) ∙ all_pass cs xs a.1)
+  all-pass [] [] a = refl
+  all-pass [] (x ∷ xs) a = absurd a
+  all-pass (c ∷ cs) [] a = absurd a
+  all-pass (c ∷ cs) (x ∷ xs) a =
+      pair _ _ (one c x (entries xs) a.0).0 (ap (all_pass P master cs) (beyond c x (entries xs) a.0) ∙ all-pass cs xs a.1)
 
   all-sum : (y : List ℕ) (cs : List Card) (xs : List (List ℕ)) → AllAccepted cs xs → pool_sum P master y cs (entries xs) ≡ digest_sum y xs
   unfolding pool_sum entries digest_sum
@@ -276,7 +276,7 @@ module _ (P : Primitives) (master : List ℕ) where
         own_length = reply-length (length cs) sum (entries xs) l few;
         own_version = reply-version (length cs) sum (entries xs) l;
         own_number = reply-number (length cs) sum (entries xs) l few;
-        all = ap (all_pass P master cs) (reply-rest (length cs) sum (entries xs) l) ∙ all_pass cs xs a;
+        all = ap (all_pass P master cs) (reply-rest (length cs) sum (entries xs) l) ∙ all-pass cs xs a;
         sum =
             ap (pool_sum P master (replicate 32 0) cs) (reply-rest (length cs) sum (entries xs) l) ∙ all-sum (replicate 32 0) cs xs a
             ∙ sym (reply-sum (length cs) sum (entries xs) l);
