@@ -16,7 +16,7 @@ ghost use Rattle.changes.specs.Kinds.{change_of};
 ghost use Rattle.access.specs.Permissions.{permission_of};
 
 // What a call that is lent a card does. An ask does what its change does.
-#[derive(Drop)]
+#[derive(Clone, Copy)]
 pub enum Permission {
     Update,
     Delete,

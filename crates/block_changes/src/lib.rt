@@ -16,7 +16,7 @@ ghost use Rattle.block_changes.specs.BlockChanges as I;
 // The block changes of a call, and the version and shape of its file: `count` changes of blocks of `size` bytes. They are those of blocks from number
 // `first` on, added where `fresh` is true, else replaced; two buffers go with them, which have the old blocks (not read where `fresh` is true) and the
 // new ones, block after block. Or, where `listed` is true, they are the items of a batch, and one buffer goes with them.
-#[derive(Drop)]
+#[derive(Clone, Copy)]
 pub struct BlockChanges {
     pub version: u64,
     pub rows: u64,

@@ -16,7 +16,7 @@ ghost use Rattle.cards.specs.Fields.{card_of, told_card, front_bytes, head_fault
 
 // What a card holds. `open_token` is 0, or the token that is drawn and not judged yet. `last` is the last counter issued; `pending` and `count` are the
 // counter and the number of blocks of a change that is asked, and neither committed nor dropped yet, both 0 for none.
-#[derive(Drop)]
+#[derive(Clone, Copy)]
 pub struct Card {
     pub version: u64,
     pub id: [u8; 8],
@@ -34,7 +34,7 @@ pub struct Card {
 }
 
 // What a card tells of asks.
-#[derive(Drop)]
+#[derive(Clone, Copy)]
 struct Asks {
     last: u64,
     pending: u64,

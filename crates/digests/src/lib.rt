@@ -20,7 +20,7 @@ ghost use Rattle.hash_queue.specs.Waiting.{Cut, Sound, flushed};
 
 // How blocks lie: `count` blocks of `size` bytes in so many rows. The mark of a block has `mark` bytes, none in version 1 and one in the others, and lies
 // `step` bytes behind that of the block before: none where one mark stands for all blocks.
-#[derive(Drop)]
+#[derive(Clone, Copy)]
 pub struct Span {
     pub rows: u64,
     pub size: u64,

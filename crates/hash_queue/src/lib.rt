@@ -19,7 +19,7 @@ const PLACES: usize = 16;
 pub const ROOM: usize = 3072;
 
 // A digest, and how many messages wait to be hashed into it.
-#[derive(Drop)]
+#[derive(Clone, Copy)]
 pub struct Sum {
     pub x: [u8; 32],
     pub fill: usize,
@@ -27,7 +27,7 @@ pub struct Sum {
 
 // How messages of one length are cut: `gap` bytes of the block behind its first `cut` are hashed where they lie. What is left has `long` bytes with
 // the padding behind it.
-#[derive(Drop)]
+#[derive(Clone, Copy)]
 pub struct Form {
     pub cut: usize,
     pub gap: usize,

@@ -15,7 +15,7 @@ ghost use Rattle.cards.specs.Fields.{card_of};
 ghost use Rattle.judging.specs.Causes.{cause_of, sealed_cause};
 
 // Why a reply is rejected: the first cause that holds of it, `Sound` where none does.
-#[derive(Drop)]
+#[derive(Clone, Copy)]
 pub enum Reason {
     WrongSize,
     WrongHeader,
@@ -27,7 +27,7 @@ pub enum Reason {
 }
 
 // What the sealed bytes of a record open to: whether their tag holds, and the token where it does.
-#[derive(Drop)]
+#[derive(Clone, Copy)]
 pub struct Body {
     pub holds: bool,
     pub token: [u8; 32],

@@ -21,7 +21,7 @@ ghost use Rattle.pools.specs.Drawn.{drawn_checks};
 pub mod gathering;
 
 // What is asked of every card in one pass: whether its numbers are within their limits, and whether a token is open.
-#[derive(Drop)]
+#[derive(Clone, Copy)]
 struct Answers {
     fit: bool,
     drawn: bool,

@@ -102,7 +102,7 @@ fn walk_some(
 }
 
 // A sum on its way through block changes, the hashes that it took, and the token's hash key, which is made when the first drawn block comes.
-#[derive(Drop)]
+#[derive(Clone, Copy)]
 struct Run {
     sum: hash_queue::Sum,
     hashes: u64,
