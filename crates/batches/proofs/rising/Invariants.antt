@@ -1,0 +1,13 @@
+-- What is left to ask stays, item by item, by rise-next.
+use Prim.Native.Nat.{◌-◌, ◌≤◌}
+use mathlib.Core.Path.{◌≡◌}
+use Rattle.scheme.specs.Batches.{items_from, rising_from}
+use Rattle.scheme.specs.Batches as S
+use Rattle.batches.proofs.FoldLaws.{items_left}
+use Rattle.batches.proofs.rising.Given as goal
+
+abbrev pub invariant-loop-e : goal.invariant-loop-e
+invariant-loop-e l = (l.e ≤ l.count) × (S.rising (items_from l.version l.size l.count l.items) ≡ rising_from l.last (items_left l.version l.size l.count l.e l.items))
+
+abbrev pub decreases-loop-e : goal.decreases-loop-e
+decreases-loop-e l = l.count - l.e
