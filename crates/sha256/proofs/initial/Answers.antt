@@ -1,0 +1,8 @@
+-- The words are those of the definition.
+use Rattle.std.proofs.Common.{refl}
+use Rattle.sha256.specs.Sha256.{H0}
+use Rattle.sha256.proofs.initial.Goals as goal
+
+pub returns : goal.returns
+unfolding H0
+returns c = refl
