@@ -23,7 +23,7 @@ use Rattle.scheme.specs.Primitives.{Primitives}
 use Rattle.scheme.specs.Records.{Card, head_fits}
 use Rattle.scheme.specs.Table.{there, value}
 use Rattle.scheme.specs.Judging.{names_fit, counter_fits, opened_body, verdict, Accepted}
-use Rattle.scheme.specs.Pools.{passes, all_pass, pool_sum, PoolAccepted, pool_verdict, entries, digest_sum, gathered_reply}
+use Rattle.scheme.specs.Pools.{passes, all_pass, pool_sum, pool_verdict, entries, digest_sum, gathered_reply}
 use Rattle.scheme.proofs.laws.CheckLaws.{both, pair}
 use Rattle.scheme.proofs.laws.JudgingLaws.{accepted-exactly}
 use Rattle.scheme.proofs.laws.PoolLaws.{pool-exactly}
