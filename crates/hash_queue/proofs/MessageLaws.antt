@@ -14,7 +14,7 @@ use Rattle.octets.specs.Octets.{be, part, put}
 use Rattle.octets.proofs.NumberLaws.{length-be}
 use Rattle.octets.proofs.PartLaws.{length_part, part-add, put-put, put_whole}
 use Rattle.sha256.specs.Sha256.{padding}
-use Rattle.hash_queue.specs.Waiting.{Shaped, Cut, said, short}
+use Rattle.hash_queue.specs.Waiting.{Cut, said, short}
 use Rattle.hash_queue.specs.declared.Form.{Form}
 
 -- a list written behind another at the front of a buffer
