@@ -1,6 +1,8 @@
 // The same vectors side by side: a message in three of sixteen lanes, and the first words of sixteen blocks of ChaCha20.
 ghost use Rattle.std.specs.Prelude.{◌≡◌, ◌+◌, ◌*◌, ◌%◌, ◌≤◌, length};
 
+use std::io;
+
 // Writes a message's last bytes and its padding to the n bytes from `a` on; the whole message has so many bits.
 fn lay(p: &mut [u8], a: usize, n: usize, m: &[u8], bits: u64)
     requires { (length m.now + 9 ≤ n) × (a + n ≤ length p.old) }
@@ -12,15 +14,15 @@ fn lay(p: &mut [u8], a: usize, n: usize, m: &[u8], bits: u64)
 }
 
 // A line with the four bytes of a word.
-fn word_line(name: &[u8], x: u32) {
+fn word_line<R: Print>(rt: &R, name: &[u8], x: u32) -> io::Result<()> {
     let mut s = [0u8; 4];
     octets::put_le4(&mut s, 0, x as u64);
-    crate::print::line(name, &s);
+    crate::print::line(rt, name, &s)
 }
 
 // Lines with the hashes of three messages, in the lanes 0, 6 and 15. The message of lane k stands in place k, of n bytes of p, but for `gap` bytes of
 // `far`, behind its first 64.
-fn show(name: &[u8], p: &[u8], n: usize, far: &[u8], gap: usize)
+fn show<R: Print>(rt: &R, name: &[u8], p: &[u8], n: usize, far: &[u8], gap: usize) -> io::Result<()>
     requires { (64 ≤ n) × (n % 64 ≡ 0) × (16 * n ≤ length p.now) × (gap % 64 ≡ 0) × (gap ≤ length far.now) }
 {
     let at = [0usize; 16];
@@ -28,9 +30,9 @@ fn show(name: &[u8], p: &[u8], n: usize, far: &[u8], gap: usize)
     let first = sha256_many::digest_of(&s, 0);
     let sixth = sha256_many::digest_of(&s, 6);
     let last = sha256_many::digest_of(&s, 15);
-    crate::print::line(name, &first);
-    crate::print::line(name, &sixth);
-    crate::print::line(name, &last);
+    crate::print::line(rt, name, &first)?;
+    crate::print::line(rt, name, &sixth)?;
+    crate::print::line(rt, name, &last)
 }
 
 // Writes the same message to the places 0, 6 and 15.
@@ -43,22 +45,22 @@ fn lay_three(p: &mut [u8], n: usize, m: &[u8], bits: u64)
 }
 
 // Messages of SHA-256 in lanes: of one block, of two, and a thousand zeros of which most lie elsewhere.
-fn hashes() {
+fn hashes<R: Print>(rt: &R) -> io::Result<()> {
     let zeros = [0u8; 1000];
     let mut one = [0u8; 1024];
     lay_three(&mut one, 64, b"abc", 24);
-    show(b"in lanes: abc", &one, 64, &zeros, 0);
+    show(rt, b"in lanes: abc", &one, 64, &zeros, 0)?;
     let mut two = [0u8; 2048];
     let letters = b"abcdbcdecdefdefgefghfghighijhijkijkljklmklmnlmnomnopnopq";
     lay_three(&mut two, 128, letters, 448);
-    show(b"in lanes: 56 letters", &two, 128, &zeros, 0);
+    show(rt, b"in lanes: 56 letters", &two, 128, &zeros, 0)?;
     let mut three = [0u8; 2048];
     lay_three(&mut three, 128, &zeros[..104], 8000);
-    show(b"in lanes: 1000 zeros", &three, 128, &zeros, 896);
+    show(rt, b"in lanes: 1000 zeros", &three, 128, &zeros, 896)
 }
 
 // The first four bytes of the blocks of RFC 8439, A.1, that have a key of zeros: blocks 1, 2 and 5, in the lanes 0, 6 and 15.
-fn blocks() {
+fn blocks<R: Print>(rt: &R) -> io::Result<()> {
     let key = [0u32; 8];
     let mut counters = [9u32; 16];
     let mut lasts = [7u32; 16];
@@ -69,13 +71,13 @@ fn blocks() {
     counters[15] = 0;
     lasts[15] = 0x02000000;
     let words = chacha20_lanes::firsts(key, counters, lasts);
-    word_line(b"in lanes: RFC 8439 A.1 1", words[0]);
-    word_line(b"in lanes: RFC 8439 A.1 2", words[6]);
-    word_line(b"in lanes: RFC 8439 A.1 5", words[15]);
+    word_line(rt, b"in lanes: RFC 8439 A.1 1", words[0])?;
+    word_line(rt, b"in lanes: RFC 8439 A.1 2", words[6])?;
+    word_line(rt, b"in lanes: RFC 8439 A.1 5", words[15])
 }
 
 // Writes the lines.
-pub fn run() {
-    hashes();
-    blocks();
+pub fn run<R: Print>(rt: &R) -> io::Result<()> {
+    hashes(rt)?;
+    blocks(rt)
 }
