@@ -1,5 +1,4 @@
 -- After i turns a thousand times i bytes came.
-use borrow.Author.Rules.{rules}
 use Prim.Native.Nat.{◌≤◌, ◌<◌, ◌-◌, ◌*◌}
 use mathlib.Core.Path.{◌≡◌}
 use Rattle.vectors.proofs.fips180.million.Given as goal

@@ -1,5 +1,4 @@
 -- All lanes read what lies elsewhere from its first byte on.
-use borrow.Author.Rules.{rules}
 use native.Mathlib.Omega.{arith}
 use Prim.Native.Nat.{ℕ}
 use lib.ListN.{get_or-replicate}

@@ -1,8 +1,6 @@
 -- Word i goes to the four bytes from 4 i on.
-use mathlib.Core.Path.{◌≡◌, refl}
-use Prim.Native.Nat.{◌≤◌, ◌-◌}
+use mathlib.Core.Path.{refl}
 use borrow.Author.Rules.{rules}
-use lib.ListN.{length}
 use Rattle.vectors.proofs.rfc8439.state_line.Goals as goal
 
 pub loop-i-init : goal.loop-i-init

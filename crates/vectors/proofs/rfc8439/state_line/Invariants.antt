@@ -1,7 +1,6 @@
 -- Word i goes to the four bytes from 4 i on.
-use mathlib.Core.Path.{◌≡◌, refl}
+use mathlib.Core.Path.{◌≡◌}
 use Prim.Native.Nat.{◌≤◌, ◌-◌}
-use borrow.Author.Rules.{rules}
 use lib.ListN.{length}
 use Rattle.vectors.proofs.rfc8439.state_line.Given as goal
 
