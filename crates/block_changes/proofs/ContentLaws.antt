@@ -19,7 +19,7 @@ use Rattle.octets.specs.Octets.{be, part, xors}
 use Rattle.sha256.specs.Sha256.{sha256}
 use Rattle.scheme.specs.Marks.{marks_in, live, deleted}
 use Rattle.scheme.specs.Batches.{item_size, item_block}
-use Rattle.scheme.specs.Tokens.{BlockChange, replaced, added, block_hash, mixed}
+use Rattle.scheme.specs.Tokens.{block_hash, mixed}
 use Rattle.scheme.specs.Totals.{hashes_in}
 use Rattle.standard.specs.Standard.{standard}
 use Rattle.hash_queue.specs.Waiting.{said}
