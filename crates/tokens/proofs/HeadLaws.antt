@@ -1,9 +1,9 @@
 -- Laws of what is hashed before a block. Assumes nothing.
 --   head-hashed     a head as far as it is lent, and a block behind it, hash as the block with its mark
 --   live-mark       the mark of a live block, as many bytes of it as its version has
-use Prim.Native.Nat.{ℕ, ◌+◌, ◌≤◌}
+use Prim.Native.Nat.{ℕ, ◌+◌}
 use native.Mathlib.Omega.{arith}
-use mathlib.Core.Path.{◌≡◌, refl, sym, ap, ◌∙◌}
+use mathlib.Core.Path.{◌≡◌, refl, ap, ◌∙◌}
 use mathlib.Core.List.{List, [], ◌∷◌, ◌++◌, append_assoc}
 use mathlib.Core.Bool.{Bool, true, false, cond}
 use lib.ListN.{length, take, length-append}

@@ -1,0 +1,8 @@
+-- The key, the index's four bytes with the mark behind them, and the block are hashed one after the other, by hash-whole.
+use Rattle.tokens.proofs.KeyLaws.{hash-whole}
+use Rattle.tokens.proofs.block_hash.Goals as goal
+
+pub returns : goal.returns
+returns c =
+    let a = c.args in
+    hash-whole a.c a.mark.now a.block.now _ _ _ a.index c.requires.0 c.put_be4.ensures c.copy.ensures c.hash.ensures
