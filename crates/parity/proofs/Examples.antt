@@ -3,7 +3,6 @@
 --   mended          a lost data byte from the other and the lowest parity byte left, whatever stands in its place
 --   small-inputs    each refusal of both calls, and pairs of faults in their order
 use mathlib.Core.Path.{◌≡◌, refl}
-use mathlib.Core.Bool.{◌&&◌}
 use mathlib.Core.List.{[], ◌∷◌}
 use lib.ListN.{replicate}
 use Rattle.scheme.specs.Checks.{first}
