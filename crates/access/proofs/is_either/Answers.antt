@@ -3,13 +3,9 @@ use mathlib.Core.Path.{ap}
 use mathlib.Core.Bool.{Bool, ◌||◌}
 use lib.Dec.{eqb}
 use Rattle.access.proofs.AmongLaws.{or-none}
-use Rattle.access.proofs.is_either.Statement.{statement}
-use Rattle.access.proofs.is_either.Tie as tie
+use Rattle.access.proofs.is_either.Goals as goal
 
-returns : tie.Need-returns
+pub returns : goal.returns
 returns c =
     let a = c.args in
     ap (λ (x : Bool). eqb a.role a.a || x) (or-none (eqb a.role a.b))
-
-pub is-either-spec : {M : Type 1} → statement M
-is-either-spec = tie.close (tie.spec returns)
