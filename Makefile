@@ -124,7 +124,8 @@ $(OUT)/bench: $(wildcard bench/*.c bench/*.h) $(SHARED) $(LIB)/liblegbaro.a $(HE
 	$(COMPILE) -Itests -I$(MODULE) $(filter %.c,$^) -o $@ $(LINK) -lcrypto -lisal
 
 prove:
-	rt check
+	rt all check
+	@for program in rows vectors; do (cd crates/$$program && rt run 2>/dev/null | diff stdout -) || exit 1; done
 
 # The shared library, packages, archives of a release, and fuzzing.
 include tools/release.mk
