@@ -42,7 +42,7 @@ static struct pair pair_of(const struct row *row)
 
 void print_loads(void)
 {
-    print_pairs_heading("A load beside what it stands for", "load");
+    print_pairs_heading("A load beside what it replaces", "load");
     for (size_t i = 0; i < sizeof rows / sizeof *rows; i++) {
         struct pair pair = pair_of(&rows[i]);
         print_pair(&pair);

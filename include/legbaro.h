@@ -124,14 +124,14 @@
  * the other verdict on a reply. Any other code is a refusal: the call leaves every buffer as it
  * was.
  *
- * The number is 0 but in two cases. With LEGBARO_BAD_RECORD it is a token. From legbaro_positions,
- * legbaro_wait and legbaro_cause, with code 0, it is the answer.
+ * The number is 0 except in two cases. With LEGBARO_BAD_RECORD it is a token. From
+ * legbaro_positions, legbaro_wait and legbaro_cause, with code 0, it is the answer.
  *
  * Each manual lists the call's codes in the order of its checks. The first check that fails decides
  * the code. The buffers that a 1 is about are in parentheses. There is no code 20.
  */
 #define LEGBARO_OK 0
-#define LEGBARO_WRONG_LENGTH 1        /* a buffer is not as long as the call wants */
+#define LEGBARO_WRONG_LENGTH 1        /* a buffer has the wrong length */
 #define LEGBARO_WRONG_HEADER 2        /* wrong length field or version; an ask below version 3 */
 #define LEGBARO_OUT_OF_LIMITS 3       /* a number or a field is outside its limits */
 #define LEGBARO_NO_SUCH_BLOCK 4       /* a block number is 0 or above n */

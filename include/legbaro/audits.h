@@ -101,20 +101,19 @@ uint64_t legbaro_judge(uint64_t role,
  * Returns code 0 and a number. It is 0 exactly where judge would accept the reply, otherwise the
  * first of these causes that holds. What it means, and what to ask of the host:
  *
- *   LEGBARO_CAUSE_SIZE      The reply was cut or lengthened on the way, or is none. Send it again.
- *   LEGBARO_CAUSE_HEADER    Reply or record are not of this file's version, or are no such records.
- *                           Run the program and the table that belong to the file.
+ *   LEGBARO_CAUSE_SIZE      The reply was cut or lengthened on the way, or is not a reply. Send it
+ *                           again.
+ *   LEGBARO_CAUSE_HEADER    The reply or its record has another version than the file, or is not
+ *                           such a record. Use the program and the table that belong to the file.
  *   LEGBARO_CAUSE_NAME      This answers another message or is for another file, or it has another
  *                           token's record. Answer the message drawn last, from this file's table.
  *   LEGBARO_CAUSE_COUNTER   The table is older than the last change, or is that of a change that
  *                           was not kept or was dropped. Use the standing table: the one sent last
  *                           or, with changes in two steps, the one committed last.
- *   LEGBARO_CAUSE_TAG       The token's record was altered. Use a copy of the standing table. Where
- *                           the replies for all files have this cause, the owner has given another
- *                           master key.
+ *   LEGBARO_CAUSE_TAG       The token's record was altered. Use a copy of the standing table. If
+ *                           the replies for all files have this cause, the master key is wrong.
  *   LEGBARO_CAUSE_DIGEST    The record is sound. A block or a mark in the rows drawn is not the
- *                           file's, or the digest was altered. The host has lost what it was to
- *                           keep.
+ *                           file's, or the digest was altered. The host has lost or altered data.
  *
  * A reply that was damaged on its way may be sent again and then judged, since the token stays
  * open.
