@@ -23,8 +23,8 @@ slice_bounds-closed-end c =
 pub closed-requires : goal.closed-requires
 closed-requires c =
     let block = c.block-b in record {
-      fact_1 = c.feed-j.ensures.small;
-      fact_2 = half_length _ _ block.result 0 block.ensures;
+      h_below = c.feed-j.ensures.small;
+      key_long = half_length _ _ block.result 0 block.ensures;
     }
 
 pub returns : goal.returns

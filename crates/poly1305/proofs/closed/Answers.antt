@@ -14,4 +14,4 @@ returns c =
     ∙ closing c.args.key.now (value freeze.result) (value c.args.h) _ freeze.ensures.same
     (cong5 (2 ^ 32) _ _ _ _ _ _ _ _ _ _ c.word.ensures.0 c.word-2.ensures.0
     c.word-3.ensures.0 c.word-4.ensures.0 refl
-    ∙ second c.args.key.now c.requires.fact_2)
+    ∙ second c.args.key.now c.requires.key_long)

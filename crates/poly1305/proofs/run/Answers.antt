@@ -10,14 +10,14 @@ use Rattle.poly1305.proofs.run.Goals as goal
 
 pub loop-i-init : goal.loop-i-init
 unfolding runs
-loop-i-init c = (zero-le, (refl, record { small = c.requires.fact_1; same = refl }))
+loop-i-init c = (zero-le, (refl, record { small = c.requires.from_below; same = refl }))
 
 pub block-h-requires : goal.block-h-requires
 block-h-requires c = record {
-  fact_1 = c.loop-i.invariant.1.1.small;
-  fact_2 = c.requires.fact_2;
-  fact_3 = omega arith;
-  fact_4 = c.requires.fact_3;
+  h_below = c.loop-i.invariant.1.1.small;
+  r_below = c.requires.r_below;
+  block_in = omega arith;
+  top_is_bit = c.requires.top_is_bit;
 }
 
 pub loop-i-preserved : goal.loop-i-preserved
