@@ -67,7 +67,7 @@ sheet: $(OUT)/legbaro
 lib: $(LIB)/liblegbaro.a $(HEADERS)
 	@echo "$(LIB)/liblegbaro.a: $$(wc -c < $(LIB)/liblegbaro.a) bytes"
 
-$(MODULE)/legbaro.ll: crates.txt $(shell find crates -type f) tools/module
+$(MODULE)/legbaro.ll: crates.txt $(shell find crates -name out -prune -o -type f -print) tools/module
 	tools/module $(MODULE)
 
 $(LIB)/liblegbaro.a: $(MODULE)/legbaro.ll tools/archive tools/choose.c tools/processors tools/wide
