@@ -77,5 +77,5 @@ returns c =
     let change = change_of a.kind a.m a.old.now a.mark.now a.new.now in
     check-of a.master.now a.card.now a.table.now a.second.now change a.totals.now c.check_head-fault.result (sym c.lent_fits-lent.ensures ∙ c.if-not-lent.false) c.check_head-fault.ensures
     c.read_card-c.result c.if-fault-ne0.false c.read_card-c.ensures
-    (eq-eqb c.read_card-c.result.version 3 c.if-c-ne3.false) c.card_fits-fits.ensures (c.if-not-fits.false)
+    (eq-eqb c.read_card-c.result.version 3 (omega arith)) c.card_fits-fits.ensures (c.if-not-fits.false)
     (eq-eqb (length a.second.now) (c.read_card-c.result.tokens * 63) c.if-second-c.false) c.late.ensures

@@ -1,5 +1,6 @@
 -- The code of the first test that fails, by code-kinds to code-none.
 use mathlib.Core.Path.{sym, ◌∙◌}
+use borrow.Author.Rules.{rules}
 use Rattle.batches.proofs.FoldLaws.{code-kinds, code-rise, code-marks, code-numbers, code-none}
 use Rattle.batches.proofs.items_code.Goals as goal
 
@@ -24,5 +25,5 @@ returns-then-not-numbers c =
 pub returns : goal.returns
 returns c =
     code-none _ _ _ _ (sym c.kinds_fit-kinds.ensures ∙ c.if-not-kinds.false) (sym c.rising-rise.ensures ∙ c.if-not-rise.false)
-    (sym c.marks_fit-low.ensures ∙ c.if-not-low.false)
+    (search rules)
     (sym c.numbers_fit-numbers.ensures ∙ c.if-not-numbers.false)

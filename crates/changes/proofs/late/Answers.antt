@@ -2,7 +2,8 @@
 use borrow.Author.Rules.{rules}
 use borrow.Author.Tests.{lt-ltb, le-ltb, eq-eqb, ne_eqb}
 use Prim.Native.Nat.{◌*◌}
-use mathlib.Core.Path.{refl, sym, ◌∙◌}
+use mathlib.Core.Path.{◌≡◌, refl, sym, ◌∙◌}
+use mathlib.Core.Bool.{true}
 use lib.ListN.{length}
 use Rattle.scheme.proofs.laws.CheckLaws.{refusal-kept}
 use Rattle.changes.specs.Kinds.{change_of}
@@ -74,8 +75,9 @@ pub returns : goal.returns
 returns c =
     let a = c.args in
     let change = change_of a.kind a.m a.old.now a.mark.now a.new.now in
+    let low : c.mark_fits-low.result ≡ true = search rules in
     late_of a.c a.table.now change (eq-eqb (length a.table.now) (a.c.tokens * 63) c.if-table-c.false)
     (c.handed_fits-handed.ensures a.m) (c.if-not-handed.false)
-    (c.mark_fits-low.ensures a.m a.old.now a.new.now) (c.if-not-low.false)
+    (c.mark_fits-low.ensures a.m a.old.now a.new.now) low
     (eq-eqb a.c.open_token 0 c.if-c-ne0.false) (eq-eqb a.c.pending 0 c.if-c-ne0-2.false)
     (sym (c.place_code-place.ensures a.old.now a.mark.now) ∙ c.if-place-ne0.false) (le-ltb a.c.last 4294967295 (search rules))

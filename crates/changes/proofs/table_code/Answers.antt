@@ -34,4 +34,4 @@ returns-then-bad-ne0 c =
 pub returns : goal.returns
 returns c =
     let a = c.args in
-    fault-of a.keys.k a.c a.table.now c.first_bad-bad.result c.first_bad-bad.ensures (eq-eqb c.first_bad-bad.result 0 c.if-bad-ne0.false)
+    fault-of a.keys.k a.c a.table.now c.first_bad-bad.result c.first_bad-bad.ensures (eq-eqb c.first_bad-bad.result 0 (search rules))

@@ -43,4 +43,4 @@ returns-then-not-sizes c =
 
 pub returns : goal.returns
 returns c =
-    rebuild-of c.args.block_bytes c.args.data_blocks c.args.parity_blocks c.args.blocks.now c.args.lost.now c.args.group.now (sym c.within-small.ensures ∙ c.if-not-small.false) (sym c.group_fits-fits.ensures ∙ c.if-not-fits.false) (sym c.named_once-once.ensures ∙ c.if-not-once.false) (le-leb (length c.args.lost.now) c.args.parity_blocks c.if-lost-parity_blocks.false) (sym c.sizes_fit-sizes.ensures ∙ c.if-not-sizes.false)
+    rebuild-of c.args.block_bytes c.args.data_blocks c.args.parity_blocks c.args.blocks.now c.args.lost.now c.args.group.now (sym c.within-small.ensures ∙ c.if-not-small.false) (sym c.group_fits-fits.ensures ∙ c.if-not-fits.false) (sym c.named_once-once.ensures ∙ c.if-not-once.false) (le-leb (length c.args.lost.now) c.args.parity_blocks (omega arith)) (sym c.sizes_fit-sizes.ensures ∙ c.if-not-sizes.false)

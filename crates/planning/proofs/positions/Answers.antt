@@ -24,4 +24,4 @@ pub returns : goal.returns
 returns c =
     let a = c.args in
     given_out a.positions a.planned a.present _
-    (sym c.asked_fits-fits.ensures ∙ c.if-not-fits.false) c.positions_for-given.ensures (omega (arith, c.if-given-gt-MOST_POSITIONS.false))
+    (sym c.asked_fits-fits.ensures ∙ c.if-not-fits.false) c.positions_for-given.ensures (omega arith)
