@@ -4,8 +4,9 @@
 
 #![tactic(auto)]
 
-ghost use Rattle.std.specs.Prelude.{◌≡◌, [], ◌∷◌, List, ℕ};
+ghost use Rattle.std.specs.Prelude.{◌≡◌, true, false, [], ◌∷◌, MatchResult};
 ghost use Rattle.counts.specs.Codes.{not_permitted};
+ghost use Rattle.counts.specs.Refused.{number, code_in};
 ghost use Rattle.scheme.specs.Roles as R;
 ghost use Rattle.scheme.specs.Changes as S;
 ghost use Rattle.scheme.specs.Asks as Q;
@@ -13,7 +14,14 @@ ghost use Rattle.scheme.specs.Calls as C;
 ghost use Rattle.scheme.specs.Pools as P;
 ghost use Rattle.standard.specs.Standard.{standard};
 ghost use Rattle.changes.specs.Kinds.{change_of};
+ghost use Rattle.judging.specs.Causes.{verdict_in, cause_in};
+ghost use Rattle.audits.specs.Moments.{moment_of};
 ghost use Rattle.access.specs.Permissions.{permission_of};
+
+use changes::Change;
+use counts::refusal::Refusal;
+use judging::{Reason, Verdict};
+use schedule::Time;
 
 // What a call that is lent a card does. An ask does what its change does.
 #[derive(Clone, Copy)]
@@ -72,142 +80,133 @@ pub fn permits(role: u64, permission: Permission) -> bool
     }
 }
 
-// What a change of a kind does, in one step or asked.
-fn permission_for(kind: changes::Kind) -> Permission
-    ensures { (m : ℕ) (old mark new : List ℕ) → permission_of result ≡ R.change_permission (change_of kind m old mark new) }
-{
-    match kind {
-        changes::Kind::Update => Permission::Update,
-        changes::Kind::Delete => Permission::Delete,
-        changes::Kind::Append => Permission::Append,
-        changes::Kind::Load => Permission::Load,
-        changes::Kind::Batch => Permission::Batch,
+impl Permission {
+    // Refuses a role that has it not.
+    fn check(self, role: u64) -> Result<(), Refusal>
+        ensures { MatchResult result (λ _. R.permits role (permission_of self) ≡ true) (λ e. (number e ≡ not_permitted) × (R.permits role (permission_of self) ≡ false)) }
+    {
+        if permits(role, self) {
+            Ok(())
+        } else {
+            Err(Refusal::NotPermitted)
+        }
     }
 }
 
-// A change in one step, under a role: the number returned, the card, the table and the totals.
+// What a change does, in one step or asked.
+impl<'a> From<Change<'a>> for Permission {
+    ghost from_gives = { λ change permission. permission_of permission ≡ R.change_permission (change_of change) };
+
+    fn from(change: Change<'a>) -> Permission {
+        match change {
+            Change::Update { .. } => Permission::Update,
+            Change::Delete { .. } => Permission::Delete,
+            Change::Append { .. } => Permission::Append,
+            Change::Load { .. } => Permission::Load,
+            Change::Batch { .. } => Permission::Batch,
+        }
+    }
+}
+
+// A change in one step, under a role.
 pub fn change(
     role: u64,
     master: &[u8],
     card: &mut [u8],
     table: &mut [u8],
-    kind: changes::Kind,
-    m: u64,
-    old: &[u8],
-    mark: &[u8],
-    new: &[u8],
+    change: Change,
     totals: &mut [u8],
-) -> u64
-    ensures value { result ≡ R.under role (R.change_permission (change_of kind m old.now mark.now new.now)) (S.change_code standard master.now card.old table.old (change_of kind m old.now mark.now new.now) totals.old) not_permitted }
-    ensures card_after { card.new ≡ R.under role (R.change_permission (change_of kind m old.now mark.now new.now)) (S.change_card standard master.now card.old table.old (change_of kind m old.now mark.now new.now) totals.old) card.old }
-    ensures table_after { table.new ≡ R.under role (R.change_permission (change_of kind m old.now mark.now new.now)) (S.change_table standard master.now card.old table.old (change_of kind m old.now mark.now new.now) totals.old) table.old }
-    ensures totals_after { totals.new ≡ R.under role (R.change_permission (change_of kind m old.now mark.now new.now)) (S.change_totals standard master.now card.old table.old (change_of kind m old.now mark.now new.now) totals.old) totals.old }
+) -> Result<(), Refusal>
+    ensures value { code_in result ≡ R.under role (R.change_permission (change_of change.entry)) (S.change_code standard master.now card.old table.old (change_of change.entry) totals.old) not_permitted }
+    ensures card_after { card.new ≡ R.under role (R.change_permission (change_of change.entry)) (S.change_card standard master.now card.old table.old (change_of change.entry) totals.old) card.old }
+    ensures table_after { table.new ≡ R.under role (R.change_permission (change_of change.entry)) (S.change_table standard master.now card.old table.old (change_of change.entry) totals.old) table.old }
+    ensures totals_after { totals.new ≡ R.under role (R.change_permission (change_of change.entry)) (S.change_totals standard master.now card.old table.old (change_of change.entry) totals.old) totals.old }
 {
-    let permission = permission_for(kind);
-    if !permits(role, permission) {
-        return counts::codes::NOT_PERMITTED;
-    }
-    changes::change(master, card, table, kind, m, old, mark, new, totals)
+    Permission::from(change).check(role)?;
+    changes::make(master, card, table, change, totals)
 }
 
-// A change asked, under a role: the number returned, the card, the second table and the totals.
+// A change asked, under a role.
 pub fn ask(
     role: u64,
     master: &[u8],
     card: &mut [u8],
     table: &[u8],
     second: &mut [u8],
-    kind: changes::Kind,
-    m: u64,
-    old: &[u8],
-    mark: &[u8],
-    new: &[u8],
+    change: Change,
     totals: &mut [u8],
-) -> u64
-    ensures value { result ≡ R.under role (R.change_permission (change_of kind m old.now mark.now new.now)) (Q.ask_code standard master.now card.old table.now second.old (change_of kind m old.now mark.now new.now) totals.old) not_permitted }
-    ensures card_after { card.new ≡ R.under role (R.change_permission (change_of kind m old.now mark.now new.now)) (Q.ask_card standard master.now card.old table.now second.old (change_of kind m old.now mark.now new.now) totals.old) card.old }
-    ensures second_after { second.new ≡ R.under role (R.change_permission (change_of kind m old.now mark.now new.now)) (Q.ask_second standard master.now card.old table.now second.old (change_of kind m old.now mark.now new.now) totals.old) second.old }
-    ensures totals_after { totals.new ≡ R.under role (R.change_permission (change_of kind m old.now mark.now new.now)) (Q.ask_totals standard master.now card.old table.now second.old (change_of kind m old.now mark.now new.now) totals.old) totals.old }
+) -> Result<(), Refusal>
+    ensures value { code_in result ≡ R.under role (R.change_permission (change_of change.entry)) (Q.ask_code standard master.now card.old table.now second.old (change_of change.entry) totals.old) not_permitted }
+    ensures card_after { card.new ≡ R.under role (R.change_permission (change_of change.entry)) (Q.ask_card standard master.now card.old table.now second.old (change_of change.entry) totals.old) card.old }
+    ensures second_after { second.new ≡ R.under role (R.change_permission (change_of change.entry)) (Q.ask_second standard master.now card.old table.now second.old (change_of change.entry) totals.old) second.old }
+    ensures totals_after { totals.new ≡ R.under role (R.change_permission (change_of change.entry)) (Q.ask_totals standard master.now card.old table.now second.old (change_of change.entry) totals.old) totals.old }
 {
-    let permission = permission_for(kind);
-    if !permits(role, permission) {
-        return counts::codes::NOT_PERMITTED;
-    }
-    asks::ask(master, card, table, second, kind, m, old, mark, new, totals)
+    Permission::from(change).check(role)?;
+    asks::ask(master, card, table, second, change, totals)
 }
 
 // A commit, under a role.
-pub fn commit(role: u64, card: &mut [u8]) -> u64
-    ensures value { result ≡ R.under role R.may_commit (Q.settle_code card.old) not_permitted }
+pub fn commit(role: u64, card: &mut [u8]) -> Result<(), Refusal>
+    ensures value { code_in result ≡ R.under role R.may_commit (Q.settle_code card.old) not_permitted }
     ensures card_after { card.new ≡ R.under role R.may_commit (Q.commit_card card.old) card.old }
 {
-    if !permits(role, Permission::Commit) {
-        return counts::codes::NOT_PERMITTED;
-    }
+    Permission::Commit.check(role)?;
     asks::commit(card)
 }
 
 // A drop, under a role.
-pub fn drop(role: u64, card: &mut [u8]) -> u64
-    ensures value { result ≡ R.under role R.may_drop (Q.settle_code card.old) not_permitted }
+pub fn drop(role: u64, card: &mut [u8]) -> Result<(), Refusal>
+    ensures value { code_in result ≡ R.under role R.may_drop (Q.settle_code card.old) not_permitted }
     ensures card_after { card.new ≡ R.under role R.may_drop (Q.drop_card card.old) card.old }
 {
-    if !permits(role, Permission::Drop) {
-        return counts::codes::NOT_PERMITTED;
-    }
+    Permission::Drop.check(role)?;
     asks::drop(card)
 }
 
-// A draw, under a role: the number returned, the card and the message.
+// A draw, under a role.
 pub fn draw(
     role: u64,
     master: &[u8],
     card: &mut [u8],
     message: &mut [u8],
     plan: &[u8],
-    year: u64,
-    month: u64,
-    day: u64,
-    minute: u64,
-) -> u64
-    ensures value { result ≡ R.under role R.may_draw (C.draw_code standard master.now card.old message.old plan.now (record { year = year; month = month; day = day; minute = minute })) not_permitted }
-    ensures card_after { card.new ≡ R.under role R.may_draw (C.draw_card standard master.now card.old message.old plan.now (record { year = year; month = month; day = day; minute = minute })) card.old }
-    ensures message_after { message.new ≡ R.under role R.may_draw (C.draw_message standard master.now card.old message.old plan.now (record { year = year; month = month; day = day; minute = minute })) message.old }
+    time: Time,
+) -> Result<(), Refusal>
+    ensures value { code_in result ≡ R.under role R.may_draw (C.draw_code standard master.now card.old message.old plan.now (moment_of time)) not_permitted }
+    ensures card_after { card.new ≡ R.under role R.may_draw (C.draw_card standard master.now card.old message.old plan.now (moment_of time)) card.old }
+    ensures message_after { message.new ≡ R.under role R.may_draw (C.draw_message standard master.now card.old message.old plan.now (moment_of time)) message.old }
 {
-    if !permits(role, Permission::Draw) {
-        return counts::codes::NOT_PERMITTED;
-    }
-    audits::draw(master, card, message, plan, year, month, day, minute)
+    Permission::Draw.check(role)?;
+    audits::draw(master, card, message, plan, time)
 }
 
-// A judgement, under a role: the verdict or a code, and the card.
-pub fn judge(role: u64, master: &[u8], card: &mut [u8], reply: &[u8]) -> u64
-    ensures value { result ≡ R.under role R.may_judge (C.judge_code standard master.now card.old reply.now) not_permitted }
+// A judgement, under a role.
+pub fn judge(role: u64, master: &[u8], card: &mut [u8], reply: &[u8]) -> Result<Verdict, Refusal>
+    ensures value { verdict_in result ≡ R.under role R.may_judge (C.judge_code standard master.now card.old reply.now) not_permitted }
     ensures card_after { card.new ≡ R.under role R.may_judge (C.judge_card standard master.now card.old reply.now) card.old }
 {
-    if !permits(role, Permission::Judge) {
-        return counts::codes::NOT_PERMITTED;
-    }
+    Permission::Judge.check(role)?;
     judging::judge(master, card, reply)
 }
 
 // The cause of a rejected reply, under a role. Writes nothing.
-pub fn cause(role: u64, master: &[u8], card: &[u8], reply: &[u8]) -> u64
-    ensures { result ≡ R.under role R.may_cause (C.cause_code standard master.now card.now reply.now) not_permitted }
+pub fn cause(role: u64, master: &[u8], card: &[u8], reply: &[u8]) -> Result<Option<Reason>, Refusal>
+    ensures { cause_in result ≡ R.under role R.may_cause (C.cause_code standard master.now card.now reply.now) not_permitted }
 {
-    if !permits(role, Permission::Cause) {
-        return counts::codes::NOT_PERMITTED;
-    }
+    Permission::Cause.check(role)?;
     judging::cause(master, card, reply)
 }
 
-// A pooled judgement, under a role: the verdict or a code, and the cards.
-pub fn judge_pool(role: u64, master: &[u8], cards: &mut [u8], reply: &[u8]) -> u64
-    ensures value { result ≡ R.under role R.may_pool (P.pool_code standard master.now cards.old reply.now) not_permitted }
+// A pooled judgement, under a role.
+pub fn judge_pool(
+    role: u64,
+    master: &[u8],
+    cards: &mut [u8],
+    reply: &[u8],
+) -> Result<Verdict, Refusal>
+    ensures value { verdict_in result ≡ R.under role R.may_pool (P.pool_code standard master.now cards.old reply.now) not_permitted }
     ensures cards_after { cards.new ≡ R.under role R.may_pool (P.pool_cards standard master.now cards.old reply.now) cards.old }
 {
-    if !permits(role, Permission::Pool) {
-        return counts::codes::NOT_PERMITTED;
-    }
+    Permission::Pool.check(role)?;
     pools::judge_pool(master, cards, reply)
 }

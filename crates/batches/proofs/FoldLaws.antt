@@ -1,7 +1,6 @@
 -- What is asked of every item of a batch, in a loop from its front: what is left to ask. Assumes nothing.
 --   items_left                               the items from one on
---   all-begun, all-failed, all-next, all_done   a test of every item; all-each: where it holds, of each
---   within_low, within-high            a test of limits, from 1 on, that fails
+--   all-listed, all-each               a test of every item, from those of each; where it holds, that of each
 --   kinds-none, kinds-more .. numbers_more     of the kinds, of the marks, of the numbers
 --   rise-begun, rise-failed, rise-next, rise-done    numbers that rise
 --   code-kinds .. code-none            the code of items from their tests
@@ -13,9 +12,10 @@ use native.Mathlib.Numerals.{add-one}
 use mathlib.Core.Path.{◌≡◌, refl, sym, ap, ap₂, ◌∙◌}
 use mathlib.Core.List.{List, [], ◌∷◌}
 use mathlib.Core.Bool.{Bool, true, false, ◌&&◌}
-use borrow.Author.Tests.{lt-ltb, le-ltb, lt-leb}
-use lib.Dec.{eqb, leb, ltb}
+use borrow.Author.Tests.{lt-ltb, le-ltb}
+use lib.Dec.{eqb, ltb}
 use lib.ListN.{length, drop}
+use Rattle.std.specs.List.{range_with_len, list_all}
 use Rattle.scheme.specs.Checks.{first, within}
 use Rattle.scheme.specs.Batches.{Item, item_size, items_from, items_of, kinds_fit, rising_from, rising, batch_fits, item_marks_fit, numbers_fit}
 use Rattle.scheme.specs.Marks.{marks_fit}
@@ -40,17 +40,11 @@ module _ (v B k : ℕ) (items : List ℕ) where
 
   -- a test p of every item, by a definition that recurses from the front
   module _ (p : Item → Bool) (all : List Item → Bool) (none : all [] ≡ true) (more : (x : Item) (xs : List Item) → all (x ∷ xs) ≡ (p x && all xs)) where
-    pub all-begun : all (items_from v B k items) ≡ all (items_left v B k 0 items)
+    all-begun : all (items_from v B k items) ≡ all (items_left v B k 0 items)
     all-begun = ap all (sym left-all)
 
     step : (e : ℕ) → e < k → all (items_left v B k e items) ≡ (p (item_in v B e items) && all (items_left v B k (e + 1) items))
     step e h = ap all (items-step v B k e items h) ∙ more (item_in v B e items) (items_left v B k (e + 1) items)
-
-    pub all-failed : (e : ℕ) → e < k → p (item_in v B e items) ≡ false → all (items_left v B k e items) ≡ false
-    all-failed e h f = step e h ∙ ap (λ (b : Bool). b && all (items_left v B k (e + 1) items)) f
-
-    pub all-next : (e : ℕ) → e < k → p (item_in v B e items) ≡ true → all (items_left v B k e items) ≡ all (items_left v B k (e + 1) items)
-    all-next e h f = step e h ∙ ap (λ (b : Bool). b && all (items_left v B k (e + 1) items)) f
 
     all_from : (e : ℕ) → e ≤ k → all (items_from v B k items) ≡ true → all (items_left v B k e items) ≡ true
     all_from zero h f = sym all-begun ∙ f
@@ -61,8 +55,16 @@ module _ (v B k : ℕ) (items : List ℕ) where
     pub all-each : (e : ℕ) → e < k → all (items_from v B k items) ≡ true → p (item_in v B e items) ≡ true
     all-each e h f = (both (p (item_in v B e items)) (all (items_left v B k (e + 1) items)) (sym (step e h) ∙ all_from e (omega arith) f)).0
 
-    pub all_done : (e : ℕ) → k ≤ e → all (items_left v B k e items) ≡ true
+    all_done : (e : ℕ) → k ≤ e → all (items_left v B k e items) ≡ true
     all_done e h = ap all (left-none e h) ∙ none
+
+    listed_from : (n e : ℕ) → e + n ≡ k → list_all (λ (i : ℕ). p (item_in v B i items)) (range_with_len e n) ≡ all (items_left v B k e items)
+    listed_from zero e h = sym (all_done e (omega arith))
+    listed_from (suc n) e h =
+        ap (λ (b : Bool). p (item_in v B e items) && b) (listed_from n (e + 1) (omega arith)) ∙ sym (step e (omega arith))
+
+    pub all-listed : list_all (λ (i : ℕ). p (item_in v B i items)) (range_with_len 0 k) ≡ all (items_from v B k items)
+    all-listed = listed_from k 0 (omega arith) ∙ sym all-begun
 
   pub rise-begun : 1 ≤ k → rising (items_from v B k items) ≡ rising_from (item_in v B 0 items).number (items_left v B k 1 items)
   unfolding rising
@@ -84,16 +86,6 @@ module _ (v B k : ℕ) (items : List ℕ) where
     pub rise-done : k ≤ e → rising_from last (items_left v B k e items) ≡ true
     unfolding rising_from
     rise-done h = ap (rising_from last) (left-none e h)
-
-pub within_low : (n x : ℕ) → x < 1 → within 1 n x ≡ false
-within_low n x h = ap (λ (b : Bool). b && leb x n) (lt-leb 1 x h)
-
-pub within-high : (n x : ℕ) → n < x → within 1 n x ≡ false
-within-high n x h = ap (λ (b : Bool). leb 1 x && b) (lt-leb x n h) ∙ none (leb 1 x)
-  where
-    none : (b : Bool) → (b && false) ≡ false
-    none true = refl
-    none false = refl
 
 abbrev pub kind_fits : Item → Bool
 kind_fits x = within 1 2 x.kind

@@ -6,11 +6,14 @@
 
 ghost use Rattle.std.specs.Prelude.{◌≡◌, [], ◌∷◌, ◌+◌, ◌*◌, ◌≤◌, ◌<◌, eqb, length, take};
 ghost use Rattle.counts.specs.Limits.{most_block_bytes, most_items};
+ghost use Rattle.counts.specs.Refused.{code_in};
 ghost use Rattle.scheme.specs.Checks.{first, within};
 ghost use Rattle.scheme.specs.Marks.{marks_in, marks_fit};
 ghost use Rattle.scheme.specs.Batches as S;
 ghost use Rattle.cards.specs.Fields.{card_of};
 ghost use Rattle.batches.specs.Items.{item_in, item_checks, batch_checks};
+
+use counts::refusal::Refusal;
 
 // The bytes of an item: kind 1, block number 4, old block, mark, new block.
 pub fn item_bytes(version: u64, size: u64) -> u64
@@ -20,176 +23,158 @@ pub fn item_bytes(version: u64, size: u64) -> u64
     5 + size + records::marks_in(version) + size
 }
 
-// Where item e begins.
-pub fn item_at(version: u64, size: u64, e: u64) -> usize
-    requires { (size ≤ most_block_bytes) × (e ≤ most_items) }
-    ensures { result ≡ e * S.item_size version size }
-{
-    (e * item_bytes(version, size)) as usize
+// So many items where they lie, end to end, in a file of a version and a block size.
+#[derive(Clone, Copy)]
+pub struct Items<'a> {
+    pub version: u64,
+    pub size: u64,
+    pub count: u64,
+    pub bytes: &'a [u8],
+    pub ghost small: { size ≤ most_block_bytes },
+    pub ghost few: { count ≤ most_items },
+    pub ghost whole: { count * S.item_size version size ≤ length bytes.now },
 }
 
-// Whether item e is an update; else it is a deletion.
-pub fn is_update(version: u64, size: u64, items: &[u8], e: u64) -> bool
-    requires { (size ≤ most_block_bytes) × (e < most_items) × (e * S.item_size version size + S.item_size version size ≤ length items.now) }
-    ensures { result ≡ eqb (item_in version size e items.now).kind 1 }
-{
-    let a = item_at(version, size, e);
-    items[a] == 1
-}
-
-// The number of the block that item e is of.
-pub fn number_of(version: u64, size: u64, items: &[u8], e: u64) -> counts::Block
-    requires { (size ≤ most_block_bytes) × (e < most_items) × (e * S.item_size version size + S.item_size version size ≤ length items.now) }
-    ensures { result.0 ≡ (item_in version size e items.now).number }
-{
-    let a = item_at(version, size, e);
-    counts::Block(octets::be4(items, a + 1) as u64)
-}
-
-// The mark of item e's old block, 0 where marks have no byte.
-pub fn mark_of(version: u64, size: u64, items: &[u8], e: u64) -> u8
-    requires { (size ≤ most_block_bytes) × (e < most_items) × (e * S.item_size version size + S.item_size version size ≤ length items.now) }
-    ensures { take (marks_in version) (result ∷ []) ≡ (item_in version size e items.now).mark }
-{
-    if records::marks_in(version) == 0 {
-        return 0;
+impl<'a> Items<'a> {
+    // Where item e begins.
+    pub fn at(self, e: u64) -> usize
+        requires { e < self.count }
+        ensures { result ≡ e * S.item_size self.entry.version self.entry.size }
+    {
+        (e * item_bytes(self.version, self.size)) as usize
     }
-    let a = item_at(version, size, e);
-    items[a + 5 + size as usize]
-}
 
-// Whether item e is an update or a deletion.
-fn kind_fits(version: u64, size: u64, items: &[u8], e: u64) -> bool
-    requires { (size ≤ most_block_bytes) × (e < most_items) × (e * S.item_size version size + S.item_size version size ≤ length items.now) }
-    ensures { result ≡ within 1 2 (item_in version size e items.now).kind }
-{
-    let a = item_at(version, size, e);
-    (1 <= items[a]) & (items[a] <= 2)
-}
+    // Whether item e is an update; else it is a deletion.
+    pub fn is_update(self, e: u64) -> bool
+        requires { e < self.count }
+        ensures { result ≡ eqb (item_in self.entry.version self.entry.size e self.entry.bytes.now).kind 1 }
+    {
+        let a = self.at(e);
+        self.bytes[a] == 1
+    }
 
-// Whether the mark of item e is 0 or 1.
-fn mark_fits(version: u64, size: u64, items: &[u8], e: u64) -> bool
-    requires { (size ≤ most_block_bytes) × (e < most_items) × (e * S.item_size version size + S.item_size version size ≤ length items.now) }
-    ensures { result ≡ marks_fit (item_in version size e items.now).mark }
-{
-    let a = item_at(version, size, e);
-    let b = a + 5 + size as usize;
-    let d = b + records::marks_in(version) as usize;
-    records::marks_fit(&items[b..d])
-}
+    // The number of the block that item e is of.
+    pub fn number(self, e: u64) -> counts::Block
+        requires { e < self.count }
+        ensures { result.0 ≡ (item_in self.entry.version self.entry.size e self.entry.bytes.now).number }
+    {
+        let a = self.at(e);
+        counts::Block(octets::be::<4>(self.bytes, a + 1))
+    }
 
-// Whether every one of `count` items is an update or a deletion.
-fn kinds_fit(version: u64, size: u64, count: u64, items: &[u8]) -> bool
-    requires { (size ≤ most_block_bytes) × (count ≤ most_items) × (count * S.item_size version size ≤ length items.now) }
-    ensures { result ≡ S.kinds_fit (S.items_from version size count items.now) }
-{
-    let mut e: u64 = 0;
-    while e < count {
-        let fits = kind_fits(version, size, items, e);
-        if !fits {
-            return false;
+    // The mark of item e's old block, 0 where marks have no byte.
+    pub fn mark(self, e: u64) -> u8
+        requires { e < self.count }
+        ensures { take (marks_in self.entry.version) (result ∷ []) ≡ (item_in self.entry.version self.entry.size e self.entry.bytes.now).mark }
+    {
+        if records::marks_in(self.version) == 0 {
+            return 0;
         }
-        e += 1;
+        let a = self.at(e);
+        self.bytes[a + 5 + self.size as usize]
     }
-    true
-}
 
-// Whether the mark of every one of `count` items is 0 or 1.
-fn marks_fit(version: u64, size: u64, count: u64, items: &[u8]) -> bool
-    requires { (size ≤ most_block_bytes) × (count ≤ most_items) × (count * S.item_size version size ≤ length items.now) }
-    ensures { result ≡ S.item_marks_fit (S.items_from version size count items.now) }
-{
-    let mut e: u64 = 0;
-    while e < count {
-        let fits = mark_fits(version, size, items, e);
-        if !fits {
-            return false;
+    // Whether item e is an update or a deletion.
+    fn kind_fits(self, e: u64) -> bool
+        requires { e < self.count }
+        ensures { result ≡ within 1 2 (item_in self.entry.version self.entry.size e self.entry.bytes.now).kind }
+    {
+        let a = self.at(e);
+        (1 <= self.bytes[a]) & (self.bytes[a] <= 2)
+    }
+
+    // Whether the mark of item e is 0 or 1.
+    fn mark_fits(self, e: u64) -> bool
+        requires { e < self.count }
+        ensures { result ≡ marks_fit (item_in self.entry.version self.entry.size e self.entry.bytes.now).mark }
+    {
+        let b = self.at(e) + 5 + self.size as usize;
+        let d = b + records::marks_in(self.version) as usize;
+        records::marks_fit(&self.bytes[b..d])
+    }
+
+    // Whether every item is an update or a deletion.
+    fn kinds_fit(self) -> bool
+        ensures { result ≡ S.kinds_fit (S.items_from self.entry.version self.entry.size self.entry.count self.entry.bytes.now) }
+    {
+        (0..self.count).all(|e| self.kind_fits(e))
+    }
+
+    // Whether the mark of every item is 0 or 1.
+    fn marks_fit(self) -> bool
+        ensures { result ≡ S.item_marks_fit (S.items_from self.entry.version self.entry.size self.entry.count self.entry.bytes.now) }
+    {
+        (0..self.count).all(|e| self.mark_fits(e))
+    }
+
+    // Whether the number of every item is that of a block of a file of n blocks.
+    fn numbers_fit(self, n: u64) -> bool
+        ensures { result ≡ S.numbers_fit n (S.items_from self.entry.version self.entry.size self.entry.count self.entry.bytes.now) }
+    {
+        (0..self.count).all(|e| records::within(1, n, self.number(e).0))
+    }
+
+    // Whether the numbers of the items, at least one, rise from each to the next.
+    fn rising(self) -> bool
+        requires { 1 ≤ self.count }
+        ensures { result ≡ S.rising (S.items_from self.entry.version self.entry.size self.entry.count self.entry.bytes.now) }
+    {
+        let mut last = self.number(0).0;
+        for e in 1..self.count {
+            let m = self.number(e);
+            if m.0 <= last {
+                return false;
+            }
+            last = m.0;
         }
-        e += 1;
+        true
     }
-    true
-}
 
-// Whether the numbers of `count` items, at least one, rise from each to the next.
-fn rising(version: u64, size: u64, count: u64, items: &[u8]) -> bool
-    requires { (size ≤ most_block_bytes) × (1 ≤ count) × (count ≤ most_items) × (count * S.item_size version size ≤ length items.now) }
-    ensures { result ≡ S.rising (S.items_from version size count items.now) }
-{
-    let begun = number_of(version, size, items, 0);
-    let mut last = begun.0;
-    let mut e: u64 = 1;
-    while e < count {
-        let m = number_of(version, size, items, e);
-        if m.0 <= last {
-            return false;
+    // Refuses items, at least one, of a file of n blocks: another kind or numbers that do not rise, then a mark above 1, then a number that is 0 or above n.
+    fn check(self, n: u64) -> Result<(), Refusal>
+        requires { 1 ≤ self.count }
+        ensures { code_in result ≡ first 0 (item_checks n (S.items_from self.entry.version self.entry.size self.entry.count self.entry.bytes.now)) }
+    {
+        let kinds = self.kinds_fit();
+        if !kinds {
+            return Err(Refusal::BadBatch);
         }
-        last = m.0;
-        e += 1;
-    }
-    true
-}
-
-// Whether the numbers of `count` items are those of blocks of a file of n blocks.
-fn numbers_fit(n: u64, version: u64, size: u64, count: u64, items: &[u8]) -> bool
-    requires { (size ≤ most_block_bytes) × (count ≤ most_items) × (count * S.item_size version size ≤ length items.now) }
-    ensures { result ≡ S.numbers_fit n (S.items_from version size count items.now) }
-{
-    let mut e: u64 = 0;
-    while e < count {
-        let m = number_of(version, size, items, e);
-        if m.0 < 1 {
-            return false;
+        let rise = self.rising();
+        if !rise {
+            return Err(Refusal::BadBatch);
         }
-        if n < m.0 {
-            return false;
+        let low = self.marks_fit();
+        if !low {
+            return Err(Refusal::BadMark);
         }
-        e += 1;
+        let numbers = self.numbers_fit(n);
+        if !numbers {
+            return Err(Refusal::NoSuchBlock);
+        }
+        Ok(())
     }
-    true
 }
 
-// The code of `count` items, 1 to 64: 14 for another kind or numbers that do not rise, 15 for a mark above 1, 4 for a number that is 0 or above n, 0
-// for none of these.
-fn items_code(c: cards::Card, count: u64, items: &[u8]) -> u64
-    requires { (c.block_bytes ≤ most_block_bytes) × (1 ≤ count) × (count ≤ most_items) × (length items.now ≡ count * S.item_size c.version c.block_bytes) }
-    ensures { result ≡ first 0 (item_checks c.blocks (S.items_from c.version c.block_bytes count items.now)) }
-{
-    let kinds = kinds_fit(c.version, c.block_bytes, count, items);
-    if !kinds {
-        return counts::codes::BAD_BATCH;
-    }
-    let rise = rising(c.version, c.block_bytes, count, items);
-    if !rise {
-        return counts::codes::BAD_BATCH;
-    }
-    let low = marks_fit(c.version, c.block_bytes, count, items);
-    if !low {
-        return counts::codes::BAD_MARK;
-    }
-    let numbers = numbers_fit(c.blocks, c.version, c.block_bytes, count, items);
-    if !numbers {
-        return counts::codes::NO_SUCH_BLOCK;
-    }
-    0
-}
-
-// The code of a batch by its items alone: 14 for no item, more than 64, a length that an item's does not divide, another kind, or numbers that do not
-// rise; then 15 for a mark above 1; then 4 for a number that is 0 or above n; 0 for none of these. Writes nothing.
-pub fn batch_code(c: cards::Card, items: &[u8]) -> u64
+// Refuses a batch for its items alone: no item, more than 64, a length that an item's does not divide, another kind, or numbers that do not rise; then a
+// mark above 1; then a number that is 0 or above n.
+pub fn check_batch(c: cards::Card, items: &[u8]) -> Result<(), Refusal>
     requires { c.block_bytes ≤ most_block_bytes }
-    ensures { result ≡ first 0 (batch_checks (card_of c) items.now) }
+    ensures { code_in result ≡ first 0 (batch_checks (card_of c) items.now) }
 {
     let each = item_bytes(c.version, c.block_bytes);
     let long = items.len() as u64;
     if long % each != 0 {
-        return counts::codes::BAD_BATCH;
+        return Err(Refusal::BadBatch);
     }
     let count = long / each;
-    if count < 1 {
-        return counts::codes::BAD_BATCH;
+    if !records::within(1, counts::limits::MOST_ITEMS, count) {
+        return Err(Refusal::BadBatch);
     }
-    if counts::limits::MOST_ITEMS < count {
-        return counts::codes::BAD_BATCH;
-    }
-    items_code(c, count, items)
+    let batch = Items {
+        version: c.version,
+        size: c.block_bytes,
+        count,
+        bytes: items,
+    };
+    batch.check(c.blocks)
 }

@@ -42,10 +42,9 @@ pub hashes-listed : (w : BlockChanges) → w.listed ≡ true → (new : List ℕ
 unfolding block_change_at
 hashes-listed w l new e = rw l
 
-pub hashes-added : (w : BlockChanges) (n : ℕ) → w.listed ≡ false → ((old new : List ℕ) → n ≡ hashes_in (block_change_of w.fresh old new)) → (new : List ℕ) (e : ℕ)
-    → n ≡ hashes_in (several_at w new e)
-unfolding block_change_at
-hashes-added w n l h new e = rw l (h ([] ++ part (e * w.size) w.size []) (live w.version ++ part (e * w.size) w.size new))
+pub hashes-added : (w : BlockChanges) → w.listed ≡ false → w.fresh ≡ true → (new : List ℕ) (e : ℕ) → 1 ≡ hashes_in (several_at w new e)
+unfolding block_change_at block_change_of
+hashes-added w l f new e = rw (l, f)
 
 pub piece-few : (e n B : ℕ) → e < n → n ≤ 16777216 → B ≤ 4096 → e * B ≤ 68719476736
 piece-few e n B h l s = le_trans (mul-le-mul_right B (le_trans (omega arith) l)) (omega (arith, s))

@@ -10,18 +10,14 @@
 --   Listed w items                the items of a batch, within the limits
 --   Several w new                 either of these two
 --   Lent w om old nm new          a change that comes alone, or several
---   Fits f v B pad ps             f cuts what is hashed of blocks of B bytes in version v, pad is its padding, and ps has all places
 use Rattle.std.specs.Prelude.{ℕ, zero, suc, ◌+◌, ◌*◌, ◌≤◌, ◌<◌, Bool, true, false, cond, List, [], ◌∷◌, ◌++◌, ◌≡◌, eqb, length}
 use Rattle.octets.specs.Octets.{part}
 use Rattle.counts.specs.Limits.{most_block_bytes, most_rows, most_blocks}
-use Rattle.sha256.specs.Sha256.{padding}
 use Rattle.scheme.specs.Marks.{marks_in, live}
 use Rattle.scheme.specs.Batches.{item_size, item_block}
 use Rattle.scheme.specs.Tokens.{BlockChange, replaced}
 use Rattle.batches.specs.Items.{item_in}
 use Rattle.tokens.specs.Keyed.{block_change_of}
-use Rattle.hash_queue.specs.Waiting.{Cut}
-use Rattle.hash_queue.specs.declared.Form.{Form}
 use Rattle.block_changes.specs.declared.BlockChanges.{BlockChanges}
 
 unfoldable pub number_at : BlockChanges → List ℕ → ℕ → ℕ
@@ -84,8 +80,3 @@ pub record Lent (w : BlockChanges) (om old nm new : List ℕ) : Type 0 where
   pub one : alone w ≡ true → One w om old nm new
   pub several : alone w ≡ false → Several w new
   pub living : alone w ≡ false → nm ≡ live w.version
-
-pub record Fits (f : Form) (v B : ℕ) (pad ps : List ℕ) : Type 0 where
-  pub cut : Cut f (36 + marks_in v) B
-  pub padded : pad ≡ padding (36 + marks_in v + B)
-  pub whole : length ps ≡ 3072

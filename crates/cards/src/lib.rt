@@ -6,6 +6,7 @@
 
 ghost use Rattle.std.specs.Prelude.{◌≡◌, ◌++◌, cond, ◌&&◌, ◌||◌, ◌+◌, ◌-◌, ◌≤◌, ◌<◌, eqb, length, get_or};
 ghost use Rattle.octets.specs.Octets.{be, of_be, part, put};
+ghost use Rattle.counts.specs.Refused.{code_in};
 ghost use Rattle.counts.specs.Sizes.{card_size, two_step_card_size};
 ghost use Rattle.counts.specs.Limits.{most_counter};
 ghost use Rattle.scheme.specs.Checks as L;
@@ -13,6 +14,8 @@ ghost use Rattle.scheme.specs.Records as S;
 ghost use Rattle.scheme.specs.Calls.{turned_card};
 ghost use Rattle.scheme.specs.Changes.{asked_card, committed_card, dropped_card};
 ghost use Rattle.cards.specs.Fields.{card_of, told_card, front_bytes, head_fault, card_fault};
+
+use counts::refusal::Refusal;
 
 // What a card holds. `open_token` is 0, or the token that is drawn and not judged yet. `last` is the last counter issued; `pending` and `count` are the
 // counter and the number of blocks of a change that is asked, and neither committed nor dropped yet, both 0 for none.
@@ -76,9 +79,9 @@ fn read_asks(s: &[u8], version: u64, counter: u64) -> Asks
 {
     if version == 3 {
         return Asks {
-            last: octets::be8(s, 43),
-            pending: octets::be8(s, 51),
-            count: records::be4(s, 59),
+            last: octets::be::<8>(s, 43),
+            pending: octets::be::<8>(s, 51),
+            count: octets::be::<4>(s, 59),
         };
     }
     Asks {
@@ -94,19 +97,19 @@ pub fn read_card(s: &[u8]) -> Card
     ensures { card_of result ≡ S.read_card s.now }
 {
     let version = records::version_in(s);
-    let counter = octets::be8(s, 27);
+    let counter = octets::be::<8>(s, 27);
     let asks = read_asks(s, version, counter);
     Card {
         version,
-        id: records::bytes8(s, 3),
-        block_bytes: octets::be2(s, 11),
-        rows: records::be4(s, 13),
-        positions: octets::be2(s, 17),
-        tokens: records::be4(s, 19),
-        blocks: records::be4(s, 23),
+        id: octets::bytes::<8>(s, 3),
+        block_bytes: octets::be::<2>(s, 11),
+        rows: octets::be::<4>(s, 13),
+        positions: octets::be::<2>(s, 17),
+        tokens: octets::be::<4>(s, 19),
+        blocks: octets::be::<4>(s, 23),
         counter,
-        next: records::be4(s, 35),
-        open_token: records::be4(s, 39),
+        next: octets::be::<4>(s, 35),
+        open_token: octets::be::<4>(s, 39),
         last: asks.last,
         pending: asks.pending,
         count: asks.count,
@@ -148,36 +151,33 @@ pub fn card_fits(c: Card) -> bool
     shape & tokens & blocks & (c.counter <= counts::limits::MOST_COUNTER) & turn & asks
 }
 
-// The code of a lent card's size and head: 1 for a length that no card has, 2 for a version that there is not, or a length field or a size that is not
-// that version's, 0 for none of these.
-pub fn check_head(s: &[u8]) -> u64
-    ensures { result ≡ head_fault s.now }
+// Refuses a lent card for its size or head: one of a length that no card has, then one with a version that there is not, or with a length field or a
+// size that is not that version's.
+pub fn check_head(s: &[u8]) -> Result<(), Refusal>
+    ensures { code_in result ≡ head_fault s.now }
 {
     let some = sized(s);
     if !some {
-        return counts::codes::WRONG_LENGTH;
+        return Err(Refusal::WrongLength);
     }
     let head = head_fits(s);
     if !head {
-        return counts::codes::WRONG_HEADER;
+        return Err(Refusal::WrongHeader);
     }
-    0
+    Ok(())
 }
 
-// The code of a lent card: that of its size and head, then 3 for a field outside its limits, 0 for none of these.
-pub fn check_card(s: &[u8]) -> u64
-    ensures { result ≡ card_fault s.now }
+// Refuses a lent card: for its size or head, then for a field outside its limits.
+pub fn check_card(s: &[u8]) -> Result<(), Refusal>
+    ensures { code_in result ≡ card_fault s.now }
 {
-    let fault = check_head(s);
-    if fault != 0 {
-        return fault;
-    }
+    check_head(s)?;
     let c = read_card(s);
     let fits = card_fits(c);
     if !fits {
-        return counts::codes::OUT_OF_LIMITS;
+        return Err(Refusal::OutOfLimits);
     }
-    0
+    Ok(())
 }
 
 // The card with another token to draw and another open one.
@@ -236,11 +236,11 @@ fn put_front(s: &mut [u8], c: Card)
     let long = card_length(c.version);
     records::put_front(s, long, c.version, id);
     records::put_shape(s, 11, c.block_bytes, c.rows, c.positions);
-    octets::put_be4(s, 19, c.tokens);
-    octets::put_be4(s, 23, c.blocks);
-    octets::put_be8(s, 27, c.counter);
-    octets::put_be4(s, 35, c.next);
-    octets::put_be4(s, 39, c.open_token);
+    octets::put_be::<4>(s, 19, c.tokens);
+    octets::put_be::<4>(s, 23, c.blocks);
+    octets::put_be::<8>(s, 27, c.counter);
+    octets::put_be::<4>(s, 35, c.next);
+    octets::put_be::<4>(s, 39, c.open_token);
 }
 
 // Writes what a card of version 3 tells of asks over the 20 bytes behind these.
@@ -248,9 +248,9 @@ fn put_asks(s: &mut [u8], last: u64, pending: u64, count: u64)
     requires { two_step_card_size ≤ length s.old }
     ensures { s.new ≡ put 43 (be 8 last ++ be 8 pending ++ be 4 count) s.old }
 {
-    octets::put_be8(s, 43, last);
-    octets::put_be8(s, 51, pending);
-    octets::put_be4(s, 59, count);
+    octets::put_be::<8>(s, 43, last);
+    octets::put_be::<8>(s, 51, pending);
+    octets::put_be::<4>(s, 59, count);
 }
 
 // Writes a card over the bytes that a card of its version has.

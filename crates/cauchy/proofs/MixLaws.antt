@@ -13,16 +13,13 @@ use lib.ListN.{length, get_or, set, replicate, length-set, length-replicate}
 use Rattle.gf256.specs.Field.{plus, times, inverse}
 use Rattle.cauchy.specs.Solve.{weight, row, solve}
 use Rattle.cauchy.specs.System.{dot, Off, Each, Apart, Distinct, Cross}
-use Rattle.gf256.proofs.SumLaws.{plus_comm, plus_assoc, plus-left-comm, plus-zero-l, plus-zero-r, plus-self}
+use Rattle.gf256.proofs.SumLaws.{plus_comm, plus-zero-l, plus-zero-r, plus-self}
 use Rattle.gf256.proofs.FieldLaws.{times-comm, times-left-comm, times-plus, times-one, times_zero, zero-times}
-use Rattle.cauchy.proofs.SolveLaws.{Bytes, rows, solves, solve-bytes, solve-length, row_lt}
+use Rattle.cauchy.proofs.SolveLaws.{Bytes, rows, across, solves, solve-bytes, solve-length, row_lt}
 
 weight-comm : (u q : ℕ) → weight u q ≡ weight q u
 unfolding weight
 weight-comm u q = ap inverse (plus_comm u q)
-
-across : (a b c d : ℕ) → plus (plus a b) (plus c d) ≡ plus (plus a c) (plus b d)
-across a b c d = simp (plus_assoc, plus-left-comm)
 
 dot-none : (ds qs : List ℕ) → dot ds (map (λ (q : ℕ). 0) qs) ≡ 0
 unfolding dot

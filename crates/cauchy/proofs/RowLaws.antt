@@ -1,14 +1,14 @@
 -- Loops and steps of solving. Assumes nothing.
 --   row_more, row-end                       a row being summed
---   rest-length, solve-none, solve-some, put_first, rest-solved   solving, of a list's first element and its rest
+--   solve-none, solve-split, rest-solved    solving, of each list's first element and its rest
 use mathlib.Core.Path.{◌≡◌, refl, sym, ap, ap₂, ◌∙◌}
-use mathlib.Core.List.{List, [], ◌∷◌, ◌++◌, append-nil}
+use mathlib.Core.List.{List, [], ◌∷◌}
 use Prim.Native.Nat.{ℕ, ◌+◌, ◌-◌, ◌<◌}
 use native.Mathlib.Numerals.{add-one}
 use native.Mathlib.Omega.{arith}
 use native.Mathlib.Nat.{le_refl, le_of_eq}
 use lib.Bits.{bit_xor}
-use lib.ListN.{get_or, length, set, take, drop, drop_of_length-le, length-drop}
+use lib.ListN.{get_or, length, take, drop, drop_of_length-le, length-drop}
 use lib.Seq.{drop-cons, take_all}
 use Rattle.gf256.specs.Field.{plus, times}
 use Rattle.cauchy.specs.Solve.{weight, row, reduced, unscaled, front, solve}
@@ -34,11 +34,8 @@ pub row-end : (u i s : ℕ) (vs ds : List ℕ) → i ≡ length vs → plus s (r
 row-end u i s vs ds h e = sym (plus-zero-r s) ∙ ap (plus s) (sym (row-none u i vs (drop i ds) h)) ∙ e
 
 -- a list's rest, as a part is lent
-pub rest-is : (xs : List ℕ) → take (length xs - 1) (drop 1 xs) ≡ drop 1 xs
+rest-is : (xs : List ℕ) → take (length xs - 1) (drop 1 xs) ≡ drop 1 xs
 rest-is xs = take_all (length xs - 1) (drop 1 xs) (le_of_eq (length-drop 1 xs))
-
-pub rest-length : (xs : List ℕ) → length (take (length xs - 1) (drop 1 xs)) ≡ length xs - 1
-rest-length xs = ap length (rest-is xs) ∙ length-drop 1 xs
 
 pub solve-none : (us vs ss : List ℕ) → length us ≡ 0 → length ss ≡ 0 → ss ≡ solve us vs ss
 unfolding solve
@@ -46,21 +43,13 @@ solve-none [] vs [] h l = refl
 solve-none [] vs (s ∷ ss) h l = absurd (omega arith)
 solve-none (u ∷ us) vs ss h l = absurd (omega arith)
 
--- the first of a list, and its rest
-pub solve-some : (us vs ss es : List ℕ) (d : ℕ) → 0 < length us → length us ≡ length vs → length ss ≡ length vs
-    → d ∷ es ≡ solve (get_or us 0 0 ∷ take (length us - 1) (drop 1 us)) (get_or vs 0 0 ∷ take (length vs - 1) (drop 1 vs)) (get_or ss 0 0 ∷ take (length ss - 1) (drop 1 ss))
-    → d ∷ es ≡ solve us vs ss
-solve-some [] vs ss es d h k l e = absurd (omega arith)
-solve-some (u ∷ us) [] ss es d h k l e = absurd (omega arith)
-solve-some (u ∷ us) (v ∷ vs) [] es d h k l e = absurd (omega arith)
-solve-some (u ∷ us) (v ∷ vs) (s ∷ ss) es d h k l e =
-    e ∙ ap₂ (λ (xs ys : List ℕ). solve (u ∷ xs) (v ∷ ys) (s ∷ take (length (s ∷ ss) - 1) ss)) (rest-is (u ∷ us)) (rest-is (v ∷ vs))
-    ∙ ap (λ (xs : List ℕ). solve (u ∷ us) (v ∷ vs) (s ∷ xs)) (rest-is (s ∷ ss))
-
-pub put_first : (ss es : List ℕ) (d : ℕ) → 0 < length ss → set (take 1 ss ++ (es ++ drop (length ss - 1) (drop 1 ss))) 0 d ≡ d ∷ es
-put_first [] es d h = absurd (omega arith)
-put_first (s ∷ ss) es d h =
-    ap (λ (l : List ℕ). d ∷ (es ++ l)) (drop_of_length-le ss {i = length (s ∷ ss) - 1} (omega arith)) ∙ ap (λ (l : List ℕ). d ∷ l) (append-nil es)
+-- the first of each list, and its rest
+pub solve-split : (us vs ss rest : List ℕ) (t : ℕ) → 0 < length us → length us ≡ length vs → ss ≡ t ∷ rest
+    → solve (get_or us 0 0 ∷ take (length us - 1) (drop 1 us)) (get_or vs 0 0 ∷ take (length vs - 1) (drop 1 vs)) (t ∷ rest) ≡ solve us vs ss
+solve-split [] vs ss rest t h k e = absurd (omega arith)
+solve-split (u ∷ us) [] ss rest t h k e = absurd (omega arith)
+solve-split (u ∷ us) (v ∷ vs) ss rest t h k e =
+    ap₂ (λ (xs ys : List ℕ). solve (u ∷ xs) (v ∷ ys) (t ∷ rest)) (rest-is (u ∷ us)) (rest-is (v ∷ vs)) ∙ ap (solve (u ∷ us) (v ∷ vs)) (sym e)
 
 pub rest-solved : {r d : ℕ} {s₁ s₂ s₃ : List ℕ} (w v t : ℕ) (us vs ss : List ℕ)
     → s₁ ≡ reduced w v t us ss → s₂ ≡ solve us vs s₁ → s₃ ≡ unscaled w v vs s₂ → r ≡ row w vs s₃ → d ≡ times (bit_xor w v) (bit_xor t r)

@@ -4,6 +4,7 @@
 --   rows us vs ds                               the sums of the bytes ds, numbered vs, in the parities us
 --   solved, solves                              the two theorems
 --   solve-length, solve-bytes, row_lt           sizes
+--   across                                      a sum of two sums, by their first and their second parts
 use mathlib.Core.Path.{◌≡◌, refl, sym, ap, ap₂, ◌∙◌}
 use mathlib.Core.List.{List, [], ◌∷◌}
 use Prim.Native.Nat.{ℕ, suc, ◌<◌}
@@ -30,7 +31,7 @@ times-plus-l a b c = times-comm (plus a b) c ∙ times-plus c a b ∙ ap₂ plus
 four : (e p q : ℕ) → plus (plus e p) (plus e q) ≡ plus p q
 four e p q = plus_assoc e p (plus e q) ∙ ap (plus e) (plus-left-comm p e q) ∙ plus-cancel e (plus p q)
 
-across : (a b c d : ℕ) → plus (plus a b) (plus c d) ≡ plus (plus a c) (plus b d)
+pub across : (a b c d : ℕ) → plus (plus a b) (plus c d) ≡ plus (plus a c) (plus b d)
 across a b c d = simp (plus_assoc, plus-left-comm)
 
 -- quotients

@@ -4,7 +4,10 @@
 --   Each P xs          P of every element
 --   Apart u xs, Distinct xs, Cross us vs   numbers that differ: u from each of xs, those of xs from each other, each of us from each of vs
 --   Solvable us vs     as many parities us as unknowns vs, with numbers that all differ
+--   Solvable-prop      which has one proof at most, as a field of a struct
 use Rattle.std.specs.Prelude.{◌≡◌, List, [], ◌∷◌, ℕ, ◌%◌, length}
+use Rattle.std.specs.Coded.{×_prop, →_prop, Unit-prop}
+use Rattle.std.proofs.Props.{props}
 use Rattle.gf256.specs.Field.{plus, times}
 
 unfoldable pub dot : List ℕ → List ℕ → ℕ
@@ -34,3 +37,32 @@ pub record Solvable (us vs : List ℕ) : Type 0 where
   pub cross : Cross us vs
   pub sources_apart : Distinct us
   pub lost_apart : Distinct vs
+
+Off-prop : (a : ℕ) → IsProp (Off a)
+Off-prop a = →_prop (λ x. absurd x)
+
+Each-prop : (P : ℕ → Type 0) → ((x : ℕ) → IsProp (P x)) → (xs : List ℕ) → IsProp (Each P xs)
+Each-prop P h [] = Unit-prop
+Each-prop P h (x ∷ xs) = ×_prop (h x) (Each-prop P h xs)
+
+Apart-prop : (u : ℕ) (xs : List ℕ) → IsProp (Apart u xs)
+Apart-prop u xs = Each-prop (λ x. Off (plus u x)) (λ x. Off-prop (plus u x)) xs
+
+Distinct-prop : (xs : List ℕ) → IsProp (Distinct xs)
+Distinct-prop [] = Unit-prop
+Distinct-prop (x ∷ xs) = ×_prop (Apart-prop x xs) (Distinct-prop xs)
+
+Cross-prop : (us vs : List ℕ) → IsProp (Cross us vs)
+Cross-prop us vs = Each-prop (λ u. Apart u vs) (λ u. Apart-prop u vs) us
+
+many-prop : (us vs : List ℕ) → IsProp (length us ≡ length vs)
+many-prop us vs = hlevel props
+
+pub Solvable-prop : (us vs : List ℕ) → IsProp (Solvable us vs)
+Solvable-prop us vs a b =
+    λ i. record {
+      many = many-prop us vs a.many b.many i;
+      cross = Cross-prop us vs a.cross b.cross i;
+      sources_apart = Distinct-prop us a.sources_apart b.sources_apart i;
+      lost_apart = Distinct-prop vs a.lost_apart b.lost_apart i;
+    }

@@ -40,8 +40,9 @@ use Rattle.block_changes.specs.declared.BlockChanges.{BlockChanges}
 use Rattle.block_changes.proofs.ContentLaws.{deleted-mark}
 use Rattle.block_changes.proofs.ListLaws.{items-added, items-listed}
 use Rattle.reseals.specs.Resealed.{Shaped}
-use Rattle.changes.specs.declared.Kind.{Kind}
-use Rattle.changes.specs.declared.Kind.TheVariants.{Update, Delete, Append, Load, Batch}
+use Rattle.std.specs.Borrow.{Bor}
+use Rattle.changes.specs.declared.Change as D
+use Rattle.changes.specs.declared.Change.TheVariants.{Update, Delete, Append, Load, Batch}
 use Rattle.changes.specs.Kinds.{change_of, changes_with, changes_for, blocks_with, Taken}
 
 -- zeros cut short
@@ -194,11 +195,11 @@ batched c items t =
           (all-each v B k items (number_fits c.blocks) (numbers_fit c.blocks) (numbers-none c.blocks) (numbers_more c.blocks) e h t.placed.1.1.0);
     }
 
--- each kind's, where the kind is known
-module _ (c : Card) (m : ℕ) (old mark new : List ℕ) where
-  of-update : Taken c (update m old mark new) → Matches c (update m old mark new) (changes_with c m 1 false false) mark old (live c.version) new
+-- each change's
+module _ (c : Card) where
+  of-update : (m : ℕ) (old mark new : List ℕ) → Taken c (update m old mark new) → Matches c (update m old mark new) (changes_with c m 1 false false) mark old (live c.version) new
   unfolding card_of
-  of-update t =
+  of-update m old mark new t =
       let B = c.block_bytes in
       let w = within-true 1 c.blocks m t.placed.0 in
       let p = both (eqb (length old) B && eqb (length mark) (marks_in c.version)) (eqb (length new) B) t.handed in
@@ -207,10 +208,10 @@ module _ (c : Card) (m : ℕ) (old mark new : List ℕ) where
       (omega (arith, eqb-true (length mark) (marks_in c.version) q.1, marks-few c.version))
       (eqb-true (length old) B q.0) (live-few c.version) (eqb-true (length new) B p.1) refl refl
 
-  of-delete : Taken c (delete m old mark)
+  of-delete : (m : ℕ) (old mark : List ℕ) → Taken c (delete m old mark)
       → Matches c (delete m old mark) (changes_with c m 1 false false) mark old (deleted c.version) (take c.block_bytes (replicate {A = ℕ} 4096 0))
   unfolding card_of
-  of-delete t =
+  of-delete m old mark t =
       let B = c.block_bytes in
       let w = within-true 1 c.blocks m t.placed.0 in
       let q = both (eqb (length old) B) (eqb (length mark) (marks_in c.version)) t.handed in
@@ -219,10 +220,10 @@ module _ (c : Card) (m : ℕ) (old mark new : List ℕ) where
       (eqb-true (length old) B q.0) (deleted-few c.version) (sym (zeros-long B 4096 t.small))
       (ap (λ (z : List ℕ). (m, replaced (mark ++ old) (deleted c.version ++ z)) ∷ []) (take-replicate B 4096 0 t.small)) refl
 
-  of-append : Taken c (append new)
+  of-append : (new : List ℕ) → Taken c (append new)
       → Matches c (append new) (changes_with c (c.blocks + 1) (length new / c.block_bytes) true false) (live c.version) new (live c.version) new
   unfolding card_of added_from pieces alike
-  of-append t =
+  of-append new t =
       let B = c.block_bytes in
       let l : length new ≡ B = eqb-true (length new) B t.handed in
       let one : length new / B ≡ 1 = once (length new) B t.sized l in
@@ -235,15 +236,15 @@ module _ (c : Card) (m : ℕ) (old mark new : List ℕ) where
       once : (n B : ℕ) → 1 ≤ B → n ≡ B → n / B ≡ 1
       once n B h e = ap (λ (k : ℕ). k / B) e ∙ div_self h
 
-  of-load : Taken c (load new)
+  of-load : (new : List ℕ) → Taken c (load new)
       → Matches c (load new) (changes_with c (c.blocks + 1) (length new / c.block_bytes) true false) (live c.version) new (live c.version) new
   unfolding card_of loaded
-  of-load t = added-changes c (load new) new t (leb-true (c.blocks + length new / c.block_bytes) 16777216 t.placed.1.0) refl refl
+  of-load new t = added-changes c (load new) new t (leb-true (c.blocks + length new / c.block_bytes) 16777216 t.placed.1.0) refl refl
 
-  of-batch : Taken c (batch new)
+  of-batch : (new : List ℕ) → Taken c (batch new)
       → Matches c (batch new) (changes_with c 0 (length new / item_size c.version c.block_bytes) false true) (live c.version) new (live c.version) new
   unfolding card_of alone items_of number_at block_change_at S.items_of
-  of-batch t =
+  of-batch new t =
       let B = c.block_bytes in
       let count = length new / item_size c.version B in
       let b = batched c new t in
@@ -271,18 +272,16 @@ module _ (c : Card) (m : ℕ) (old mark new : List ℕ) where
         after = refl;
       }
 
--- what is said of a kind: the block changes made for it, with the marks and blocks that its arm hands over
-abbrev Claim : Card → ℕ → List ℕ → List ℕ → List ℕ → List ℕ → List ℕ → List ℕ → List ℕ → Kind → Type 0
-Claim c m old mark new om x nm y kind =
-    (w : BlockChanges) → w ≡ changes_for c kind m (length new) → Taken c (change_of kind m old mark new) → Matches c (change_of kind m old mark new) w om x nm y
+-- what is said of a change: its block changes, with the marks and blocks that its arm hands over
+abbrev Claim : Card → List ℕ → List ℕ → List ℕ → List ℕ → D.Change → Type 0
+Claim c om x nm y change = (w : BlockChanges) → w ≡ changes_for c change → Taken c (change_of change) → Matches c (change_of change) w om x nm y
 
 -- the zeros of a deletion
 abbrev zeros : Card → List ℕ
 zeros c = take c.block_bytes (replicate {A = ℕ} 4096 0)
 
 -- as the code has it: k bytes of a mark are lent
-module _ (c : Card) (kind : Kind) (m : ℕ) (old mark new : List ℕ) (w : BlockChanges) (ew : w ≡ changes_for c kind m (length new)) (t : Taken c (change_of kind m old mark new))
-    (k : ℕ) (ek : k ≡ marks_in c.version) where
+module _ (c : Card) (change : D.Change) (w : BlockChanges) (ew : w ≡ changes_for c change) (t : Taken c (change_of change)) (k : ℕ) (ek : k ≡ marks_in c.version) where
   abbrev living : List ℕ
   living = take k (replicate {A = ℕ} 1 0)
 
@@ -292,36 +291,37 @@ module _ (c : Card) (kind : Kind) (m : ℕ) (old mark new : List ℕ) (w : Block
   alive : live c.version ≡ living
   alive = sym (live-mark c.version) ∙ ap (λ (n : ℕ). take n (replicate {A = ℕ} 1 0)) (sym ek)
 
-  pub update-changes : kind ≡ Update → Matches c (change_of kind m old mark new) w mark old living new
-  update-changes e =
-      subst (Claim c m old mark new mark old living new) (sym e)
-      (λ v ev s. subst (λ (u : BlockChanges). Matches c (update m old mark new) u mark old living new) (sym ev)
-      (subst (λ (x : List ℕ). Matches c (update m old mark new) (changes_with c m 1 false false) mark old x new) alive (of-update c m old mark new s))) w ew t
+  pub update-changes : (m : ℕ) (old mark new : Bor (List ℕ)) → change ≡ Update m old mark new → Matches c (change_of change) w mark.now old.now living new.now
+  update-changes m old mark new e =
+      subst (Claim c mark.now old.now living new.now) (sym e)
+      (λ v ev s. subst (λ (u : BlockChanges). Matches c (update m old.now mark.now new.now) u mark.now old.now living new.now) (sym ev)
+      (subst (λ (x : List ℕ). Matches c (update m old.now mark.now new.now) (changes_with c m 1 false false) mark.now old.now x new.now) alive
+      (of-update c m old.now mark.now new.now s))) w ew t
 
-  pub delete-changes : kind ≡ Delete → Matches c (change_of kind m old mark new) w mark old gone (take c.block_bytes (replicate {A = ℕ} 4096 0))
-  delete-changes e =
-      subst (Claim c m old mark new mark old gone (zeros c)) (sym e)
-      (λ v ev s. subst (λ (u : BlockChanges). Matches c (delete m old mark) u mark old gone (zeros c)) (sym ev)
-      (subst (λ (x : List ℕ). Matches c (delete m old mark) (changes_with c m 1 false false) mark old x (zeros c))
-      (sym (deleted-mark c.version) ∙ ap (λ (n : ℕ). take n (replicate {A = ℕ} 1 1)) (sym ek)) (of-delete c m old mark new s))) w ew t
+  pub delete-changes : (m : ℕ) (old mark : Bor (List ℕ)) → change ≡ Delete m old mark → Matches c (change_of change) w mark.now old.now gone (take c.block_bytes (replicate {A = ℕ} 4096 0))
+  delete-changes m old mark e =
+      subst (Claim c mark.now old.now gone (zeros c)) (sym e)
+      (λ v ev s. subst (λ (u : BlockChanges). Matches c (delete m old.now mark.now) u mark.now old.now gone (zeros c)) (sym ev)
+      (subst (λ (x : List ℕ). Matches c (delete m old.now mark.now) (changes_with c m 1 false false) mark.now old.now x (zeros c))
+      (sym (deleted-mark c.version) ∙ ap (λ (n : ℕ). take n (replicate {A = ℕ} 1 1)) (sym ek)) (of-delete c m old.now mark.now s))) w ew t
 
-  pub append-changes : kind ≡ Append → Matches c (change_of kind m old mark new) w living new living new
-  append-changes e =
-      subst (Claim c m old mark new living new living new) (sym e)
-      (λ v ev s. subst (λ (u : BlockChanges). Matches c (append new) u living new living new) (sym ev)
-      (subst (λ (x : List ℕ). Matches c (append new) (changes_for c Append m (length new)) x new x new) alive (of-append c m old mark new s))) w ew t
+  pub append-changes : (new : Bor (List ℕ)) → change ≡ Append new → Matches c (change_of change) w living new.now living new.now
+  append-changes new e =
+      subst (Claim c living new.now living new.now) (sym e)
+      (λ v ev s. subst (λ (u : BlockChanges). Matches c (append new.now) u living new.now living new.now) (sym ev)
+      (subst (λ (x : List ℕ). Matches c (append new.now) (changes_for c (Append new)) x new.now x new.now) alive (of-append c new.now s))) w ew t
 
-  pub load-changes : kind ≡ Load → Matches c (change_of kind m old mark new) w living new living new
-  load-changes e =
-      subst (Claim c m old mark new living new living new) (sym e)
-      (λ v ev s. subst (λ (u : BlockChanges). Matches c (load new) u living new living new) (sym ev)
-      (subst (λ (x : List ℕ). Matches c (load new) (changes_for c Load m (length new)) x new x new) alive (of-load c m old mark new s))) w ew t
+  pub load-changes : (new : Bor (List ℕ)) → change ≡ Load new → Matches c (change_of change) w living new.now living new.now
+  load-changes new e =
+      subst (Claim c living new.now living new.now) (sym e)
+      (λ v ev s. subst (λ (u : BlockChanges). Matches c (load new.now) u living new.now living new.now) (sym ev)
+      (subst (λ (x : List ℕ). Matches c (load new.now) (changes_for c (Load new)) x new.now x new.now) alive (of-load c new.now s))) w ew t
 
-  pub batch-changes : kind ≡ Batch → Matches c (change_of kind m old mark new) w living new living new
-  batch-changes e =
-      subst (Claim c m old mark new living new living new) (sym e)
-      (λ v ev s. subst (λ (u : BlockChanges). Matches c (batch new) u living new living new) (sym ev)
-      (subst (λ (x : List ℕ). Matches c (batch new) (changes_for c Batch m (length new)) x new x new) alive (of-batch c m old mark new s))) w ew t
+  pub batch-changes : (items : Bor (List ℕ)) → change ≡ Batch items → Matches c (change_of change) w living items.now living items.now
+  batch-changes items e =
+      subst (Claim c living items.now living items.now) (sym e)
+      (λ v ev s. subst (λ (u : BlockChanges). Matches c (batch items.now) u living items.now living items.now) (sym ev)
+      (subst (λ (x : List ℕ). Matches c (batch items.now) (changes_for c (Batch items)) x items.now x items.now) alive (of-batch c items.now s))) w ew t
 
 counted : (w : BlockChanges) {v : BlockChanges} → w ≡ v → v.count ≤ 16777217 → w.count ≤ 16777217
 counted w e h = subst (λ (u : BlockChanges). u.count ≤ 16777217) (sym e) h
@@ -335,11 +335,11 @@ unfolding card_of
 append-few c new t =
     omega (arith, ap (λ (n : ℕ). n / c.block_bytes) (eqb-true (length new) c.block_bytes t.handed) ∙ div_self t.sized)
 
--- the number of blocks after a change of any kind, and room for it
-pub blocks-after : (c : Card) (kind : Kind) (m : ℕ) (old mark new : List ℕ) (w : BlockChanges) → w ≡ changes_for c kind m (length new) → Taken c (change_of kind m old mark new)
-    → (blocks_with c w ≡ blocks_after (card_of c) (change_of kind m old mark new)) × (w.count ≤ 16777217)
-blocks-after c Update m old mark new w ew t = ((update-changes c Update m old mark new w ew t _ refl refl).after, counted w ew (omega arith))
-blocks-after c Delete m old mark new w ew t = ((delete-changes c Delete m old mark new w ew t _ refl refl).after, counted w ew (omega arith))
-blocks-after c Append m old mark new w ew t = ((append-changes c Append m old mark new w ew t _ refl refl).after, counted w ew (omega (arith, append-few c new t)))
-blocks-after c Load m old mark new w ew t = ((load-changes c Load m old mark new w ew t _ refl refl).after, counted w ew (omega (arith, load-few c new t)))
-blocks-after c Batch m old mark new w ew t = ((batch-changes c Batch m old mark new w ew t _ refl refl).after, counted w ew (omega (arith, (batched c new t).few)))
+-- the number of blocks after a change, and room for it
+pub blocks-after : (c : Card) (change : D.Change) (w : BlockChanges) → w ≡ changes_for c change → Taken c (change_of change)
+    → (blocks_with c w ≡ blocks_after (card_of c) (change_of change)) × (w.count ≤ 16777217)
+blocks-after c (Update m old mark new) w ew t = ((update-changes c (Update m old mark new) w ew t _ refl m old mark new refl).after, counted w ew (omega arith))
+blocks-after c (Delete m old mark) w ew t = ((delete-changes c (Delete m old mark) w ew t _ refl m old mark refl).after, counted w ew (omega arith))
+blocks-after c (Append new) w ew t = ((append-changes c (Append new) w ew t _ refl new refl).after, counted w ew (omega (arith, append-few c new.now t)))
+blocks-after c (Load new) w ew t = ((load-changes c (Load new) w ew t _ refl new refl).after, counted w ew (omega (arith, load-few c new.now t)))
+blocks-after c (Batch items) w ew t = ((batch-changes c (Batch items) w ew t _ refl items refl).after, counted w ew (omega (arith, (batched c items.now t).few)))

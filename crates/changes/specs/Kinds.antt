@@ -1,11 +1,11 @@
 -- A change as the code hands it over. Assumes nothing.
---   change_of kind m old mark new    the scheme's change: a deletion has no new block, an append, a load and a batch no number and no old block
+--   change_of change               the scheme's change
 --   load_checks c long             what is checked of a load of so many bytes
---   changes_for c kind m long         its block changes, where the new contents have so many bytes
+--   changes_for c change           its block changes
 --   blocks_with c w                the number of blocks after them
 --   table_fault key c table        the code that the unused records of a table give under K
 --   Taken c change                what a change that is not turned away has
-use Rattle.std.specs.Prelude.{ℕ, ◌+◌, ◌*◌, ◌-◌, ◌/◌, ◌%◌, ◌≤◌, Bool, true, false, cond, ◌&&◌, List, [], ◌∷◌, ◌≡◌, eqb, leb, ltb}
+use Rattle.std.specs.Prelude.{ℕ, ◌+◌, ◌*◌, ◌-◌, ◌/◌, ◌%◌, ◌≤◌, Bool, true, false, cond, ◌&&◌, List, [], ◌∷◌, ◌≡◌, eqb, leb, ltb, length}
 use Rattle.counts.specs.Codes.{file_full, bad_record, not_whole_blocks}
 use Rattle.counts.specs.Limits.{most_block_bytes, most_rows, most_blocks}
 use Rattle.scheme.specs.Changes.{Change, update, delete, append, load, batch, handed_fits, place_checks}
@@ -17,17 +17,17 @@ use Rattle.standard.specs.Standard.{standard}
 use Rattle.cards.specs.Fields.{card_of}
 use Rattle.cards.specs.declared.Card.{Card}
 use Rattle.block_changes.specs.declared.BlockChanges.{BlockChanges}
-use Rattle.changes.specs.declared.Kind.{Kind}
-use Rattle.changes.specs.declared.Kind.TheVariants.{Update, Delete, Append, Load, Batch}
+use Rattle.changes.specs.declared.Change as D
+use Rattle.changes.specs.declared.Change.TheVariants.{Update, Delete, Append, Load, Batch}
 
 -- "Update, delete (block number, old block; update also the new one), append (new block)"; "changes hand over the old mark"; load (new blocks end to
 -- end); batch (items end to end)
-abbrev pub change_of : Kind → ℕ → List ℕ → List ℕ → List ℕ → Change
-change_of Update m old mark new = update m old mark new
-change_of Delete m old mark new = delete m old mark
-change_of Append m old mark new = append new
-change_of Load m old mark new = load new
-change_of Batch m old mark new = batch new
+abbrev pub change_of : D.Change → Change
+change_of (Update m old mark new) = update m old.now mark.now new.now
+change_of (Delete m old mark) = delete m old.now mark.now
+change_of (Append new) = append new.now
+change_of (Load new) = load new.now
+change_of (Batch items) = batch items.now
 
 abbrev pub load_checks : S.Card → ℕ → List (Bool × ℕ)
 load_checks c long = (ltb 0 long && eqb (long % c.B) 0, not_whole_blocks) ∷ (leb (c.n + long / c.B) most_blocks, file_full) ∷ []
@@ -44,12 +44,12 @@ changes_with c first count fresh listed = record {
   listed = listed;
 }
 
-abbrev pub changes_for : Card → Kind → ℕ → ℕ → BlockChanges
-changes_for c Update m long = changes_with c m 1 false false
-changes_for c Delete m long = changes_with c m 1 false false
-changes_for c Append m long = changes_with c (c.blocks + 1) (long / c.block_bytes) true false
-changes_for c Load m long = changes_with c (c.blocks + 1) (long / c.block_bytes) true false
-changes_for c Batch m long = changes_with c 0 (long / item_size c.version c.block_bytes) false true
+abbrev pub changes_for : Card → D.Change → BlockChanges
+changes_for c (Update m old mark new) = changes_with c m 1 false false
+changes_for c (Delete m old mark) = changes_with c m 1 false false
+changes_for c (Append new) = changes_with c (c.blocks + 1) (length new.now / c.block_bytes) true false
+changes_for c (Load new) = changes_with c (c.blocks + 1) (length new.now / c.block_bytes) true false
+changes_for c (Batch items) = changes_with c 0 (length items.now / item_size c.version c.block_bytes) false true
 
 abbrev pub blocks_with : Card → BlockChanges → ℕ
 blocks_with c w = cond w.fresh (c.blocks + w.count) c.blocks

@@ -2,26 +2,26 @@
 --   reached-row, reached-below     a row is reached; what is reached is a number of two halves
 --   turn-taken                     a turn leads on, and the turns of the walk are that one and those ahead
 --   passed_none                    no walk yet
---   passed-more, passed-four       one walk more, and four
+--   passed-more, passed-further    one walk more, and one more of several that were read at once
 --   passed-all                     all
---   passed-rest, passed-read       those whose turn is not taken yet, and where one of them leads
+--   passed-rest                    those whose turn is not taken yet
 use mathlib.Core.Path.{◌≡◌, refl, sym, ap, ◌∙◌, subst}
 use mathlib.Core.Bool.{Bool, true, false, cond}
 use mathlib.Core.Logic.{◌⊎◌, inl, inr}
-use mathlib.Core.List.{List, [], ◌∷◌}
+use mathlib.Core.List.{List}
 use Prim.Native.Nat.{ℕ, ◌+◌, ◌-◌, ◌^◌, ◌≤◌, ◌<◌}
 use native.Mathlib.Omega.{arith}
 use native.Mathlib.Decide.{dec_lt}
 use borrow.Author.Tests.{leb-true, leb-false, le-leb}
-use lib.Dec.{leb, lit<}
+use lib.Dec.{leb}
 use lib.ListN.{length, get_or, set, length-set}
 use lib.Seq.{get_or-set_other}
-use Rattle.permutation.specs.Rounds.{half, unrounds}
+use Rattle.permutation.specs.Rounds.{half}
 use Rattle.permutation.specs.Walk.{turns}
-use Rattle.permutation.specs.Permutation.{round_function, eight_undone, backward_turns}
+use Rattle.permutation.specs.Permutation.{eight_undone, backward_turns}
 use Rattle.permutation.proofs.WalkLoop.{started, onward, within}
 use Rattle.permutation.proofs.WidthLaws.{half-wide}
-use Rattle.permutation.proofs.PermutationLaws.{redone, unrounds-at}
+use Rattle.permutation.proofs.PermutationLaws.{redone}
 use Rattle.cycle_walks.specs.Each.{Midway, turns_of, ahead}
 use Rattle.cycle_walks.specs.Along.{Reached, Underway, Kept, Passed}
 use Rattle.cycle_walks.proofs.EachLaws.{set_more}
@@ -91,13 +91,13 @@ module _ (key : List ℕ) (d : ℕ) where
   pub passed-rest : {n at still : ℕ} {us vs : List ℕ} → Underway key d 0 n us → Passed key d n us vs still at → Underway key d at n vs
   passed-rest under p i z b = subst (Reached key d) (sym (p.rest i z b)) (under i (omega arith) b)
 
-  module _ (h : ℕ) (e : h ≡ half d) {n : ℕ} {us : List ℕ} (under : Underway key d 0 n us) where
-    pub passed-more : {vs ws : List ℕ} {still at next v r : ℕ} → next ≡ at + 1 → next ≤ n → v ≡ unrounds (round_function key h) h 8 (get_or us at 0)
+  module _ {n : ℕ} {us : List ℕ} (under : Underway key d 0 n us) where
+    pub passed-more : {vs ws : List ℕ} {still at next v r : ℕ} → next ≡ at + 1 → next ≤ n → v ≡ eight_undone key d (get_or us at 0)
         → Kept d v still vs r ws → Passed key d n us vs still at → Passed key d n us ws r next
     passed-more {vs} {ws} {still} {at} {next} {v} {r} one more q k p =
         let u = get_or us at 0 in
         let inside : still < length vs = omega (arith, p.few, p.long) in
-        let taken = turn-taken (under at (omega arith) (omega arith)) (q ∙ unrounds-at key d u e) in
+        let taken = turn-taken (under at (omega arith) (omega arith)) q in
         let now : Passed key d n us (set vs still v) r (at + 1)
         = record {
           few = omega (arith, one_at_most d v still r k.1, p.few);
@@ -109,20 +109,11 @@ module _ (key : List ℕ) (d : ℕ) where
         } in
         subst (λ (l : List ℕ). Passed key d n us l r next) (sym k.0) (subst (Passed key d n us (set vs still v) r) (sym one) now)
 
-    pub passed-read : {vs : List ℕ} {still at i v : ℕ} → Passed key d n us vs still at → at ≤ i → i < n → v ≡ unrounds (round_function key h) h 8 (get_or vs i 0)
-        → v ≡ unrounds (round_function key h) h 8 (get_or us i 0)
-    passed-read p z b q = q ∙ ap (unrounds (round_function key h) h 8) (p.rest _ z b)
-
-    pub passed-four : {vs w₁ w₂ w₃ w₄ : List ℕ} {still r₁ r₂ r₃ r₄ at : ℕ} (rs : List ℕ) → at + 4 ≤ n
-        → ((k : ℕ) → k < 4
-        → get_or rs k 0 ≡ unrounds (round_function key h) h 8 (get_or (get_or vs at 0 ∷ get_or vs (at + 1) 0 ∷ get_or vs (at + 2) 0 ∷ get_or vs (at + 3) 0 ∷ []) k 0))
-        → Kept d (get_or rs 0 0) still vs r₁ w₁ → Kept d (get_or rs 1 0) r₁ w₁ r₂ w₂ → Kept d (get_or rs 2 0) r₂ w₂ r₃ w₃ → Kept d (get_or rs 3 0) r₃ w₃ r₄ w₄
-        → Passed key d n us vs still at → Passed key d n us w₄ r₄ (at + 4)
-    passed-four {vs} {w₁} {w₂} {w₃} {w₄} {still} {r₁} {r₂} {r₃} {r₄} {at} rs more led a b c e p =
-        let p₁ : Passed key d n us w₁ r₁ (at + 1) = passed-more refl (omega arith) (passed-read p (omega arith) (omega arith) (led 0 (lit< tt))) a p in
-        let p₂ : Passed key d n us w₂ r₂ (at + 2) = passed-more (omega arith) (omega arith) (passed-read p (omega arith) (omega arith) (led 1 (lit< tt))) b p₁ in
-        let p₃ : Passed key d n us w₃ r₃ (at + 3) = passed-more (omega arith) (omega arith) (passed-read p (omega arith) (omega arith) (led 2 (lit< tt))) c p₂ in
-        passed-more (omega arith) more (passed-read p (omega arith) (omega arith) (led 3 (lit< tt))) e p₃
+    -- a walk behind the first that is read before they are moved
+    pub passed-further : {vs ws xs : List ℕ} {still at next v r : ℕ} (k : ℕ) → at + k < n → Passed key d n us vs still at
+        → v ≡ eight_undone key d (get_or vs (at + k) 0) → Kept d v next ws r xs → Passed key d n us ws next (at + k) → Passed key d n us xs r (at + (k + 1))
+    passed-further {at = at} k b p q kept now =
+        passed-more (omega arith) (omega arith) (q ∙ ap (eight_undone key d) (p.rest (at + k) (omega arith) b)) kept now
 
   pub passed-all : {n at still : ℕ} {us vs : List ℕ} → n ≤ at → Passed key d n us vs still at
       → (still ≤ n) × Underway key d 0 still vs × (n + turns_of key d still vs ≡ turns_of key d n us)

@@ -1,33 +1,32 @@
 -- Walks on their way. Assumes nothing.
---   width, wide, turn_below     the half width; numbers below d, and where a turn leads, are numbers of two halves
+--   wide, turn_below            numbers below d, and where a turn leads, are numbers of two halves
 --   ahead-is, ahead-home        the turns taken and those ahead are the definition's; none is ahead of a walk that has come home
 --   walking-none                 no walk yet
 --   walking-first, walking-next   one walk more, after its first turn; one more turn of a walk
 --   walking-end                  where no walk goes on, all have come home, and the turns are theirs
 --   turns-none, turns_more      the turns of no walk, and of one walk more
 --   turns-most                  what they are at most
+--   front                       walks of the first n of a list, whose ends are the first n of another
 use mathlib.Core.Path.{◌≡◌, refl, sym, ap, ◌∙◌, subst}
 use mathlib.Core.Bool.{Bool, true, false, cond}
-use mathlib.Core.List.{List, []}
+use mathlib.Core.List.{List, [], ◌++◌}
 use Prim.Native.Nat.{ℕ, ◌+◌, ◌-◌, ◌*◌, ◌^◌, ◌≤◌, ◌<◌}
 use native.Mathlib.Omega.{arith}
 use native.Mathlib.Numerals.{add-one}
 use borrow.Author.Tests.{leb-true, leb-false, lt-leb}
 use lib.Dec.{leb}
-use lib.ListN.{length, get_or, set}
-use Rattle.permutation.specs.Rounds.{half, unrounds}
+use lib.ListN.{length, take, get_or, set, get_or-append}
+use Rattle.std.proofs.lemmas.List.{get_or-take, length-take-le}
+use Rattle.permutation.specs.Rounds.{half}
 use Rattle.permutation.specs.Walk.{turns}
-use Rattle.permutation.specs.Permutation.{round_function, eight_undone, backward, backward_turns}
+use Rattle.permutation.specs.Permutation.{eight_undone, backward, backward_turns}
 use Rattle.permutation.proofs.WalkLoop.{started, onward, answered, turns-ahead}
 use Rattle.permutation.proofs.WidthLaws.{half-wide, half_le, whole_le}
-use Rattle.permutation.proofs.PermutationLaws.{redone, unrounds-at, backward-most}
+use Rattle.permutation.proofs.PermutationLaws.{redone, backward-most}
 use Rattle.cycle_walks.specs.Each.{sum_below, Below, Midway, Backed, turns_of, ahead, ahead_of, Walking, going}
 use Rattle.cycle_walks.proofs.EachLaws.{set_more, set-kept}
-use Rattle.cycle_walks.proofs.SumLaws.{sum-most, sum_more, sum-set}
+use Rattle.cycle_walks.proofs.SumLaws.{sum_same, sum-most, sum_more, sum-set}
 use Rattle.cycle_walks.proofs.PlaceLaws.{going-none}
-
-pub width : (d h : ℕ) → h ≡ half d → d ≤ 1048576 → h ≤ 10
-width d h e l = omega (arith, half_le d l)
 
 pub wide : (d h x : ℕ) → h ≡ half d → x < d → x < 4 ^ h
 wide d h x e l = subst (λ (k : ℕ). x < 4 ^ k) (sym e) (omega (arith, half-wide d))
@@ -73,26 +72,28 @@ unfolding ahead_of turns_of sum_below
 walking-none key d xs vs = record { under = λ i l. absurd (omega arith); counted = refl }
 
 module _ (key : List ℕ) (d h : ℕ) (e : h ≡ half d) where
-  pub turn_below : (x v : ℕ) → x < 4 ^ h → v ≡ unrounds (round_function key h) h 8 x → v < 4 ^ h
-  turn_below x v l q = subst (λ (k : ℕ). k < 4 ^ h) (sym q) ((redone key h).stays x l)
+  pub turn_below : (x v : ℕ) → x < 4 ^ h → v ≡ eight_undone key d x → v < 4 ^ h
+  turn_below x v l q =
+      let below : x < 4 ^ half d = subst (λ (k : ℕ). x < 4 ^ k) e l in
+      subst (λ (k : ℕ). v < 4 ^ k) (sym e) (subst (λ (k : ℕ). k < 4 ^ half d) (sym q) ((redone key (half d)).stays x below))
 
-  pub walking-first : (xs vs : List ℕ) (i v : ℕ) → i < length vs → get_or xs i 0 < d → v ≡ unrounds (round_function key h) h 8 (get_or xs i 0)
+  pub walking-first : (xs vs : List ℕ) (i v : ℕ) → i < length vs → get_or xs i 0 < d → v ≡ eight_undone key d (get_or xs i 0)
       → Walking key d i xs vs i → Walking key d (i + 1) xs (set vs i v) (i + 1)
   walking-first xs vs i v w l q c =
       let x = get_or xs i 0 in
-      let m : Midway key d x v = record { turns = 1; going = started d x (q ∙ unrounds-at key d x e) } in
+      let m : Midway key d x v = record { turns = 1; going = started d x q } in
       record {
         under = set_more (λ j u. Midway key d (get_or xs j 0) u) vs i v w m c.under;
         counted = omega (arith, ahead_more key d i v vs w, turns_more key d i xs, ahead-is key d x v l m, c.counted);
       }
 
-  pub walking-next : (xs vs : List ℕ) (n i v t : ℕ) → i < n → i < length vs → Below d n xs → d ≤ get_or vs i 0 → v ≡ unrounds (round_function key h) h 8 (get_or vs i 0)
+  pub walking-next : (xs vs : List ℕ) (n i v t : ℕ) → i < n → i < length vs → Below d n xs → d ≤ get_or vs i 0 → v ≡ eight_undone key d (get_or vs i 0)
       → Walking key d n xs vs t → Walking key d n xs (set vs i v) (t + 1)
   walking-next xs vs n i v t b w below out q c =
       let x = get_or xs i 0 in
       let u = get_or vs i 0 in
       let was = c.under i b in
-      let m : Midway key d x v = record { turns = was.turns + 1; going = onward was.going out (q ∙ unrounds-at key d u e) } in
+      let m : Midway key d x v = record { turns = was.turns + 1; going = onward was.going out q } in
       record {
         under = set-kept (λ j y. Midway key d (get_or xs j 0) y) vs i v w m n c.under;
         counted = omega (arith, ahead-set key d n i v vs b w, ahead-is key d x u (below i b) was, ahead-is key d x v (below i b) m, c.counted);
@@ -106,3 +107,18 @@ walking-end key d n t xs vs b e c =
     let none : sum_below n (λ i. ahead key d (get_or vs i 0)) ≤ n * 0
     = sum-most (λ i. ahead key d (get_or vs i 0)) 0 n (λ i l. omega (arith, ahead-home key d (get_or vs i 0) (home i l))) in
     (omega (arith, c.counted), λ i l. (answered (redone key (half d)) (half-wide d) (b i l) (c.under i l).going (home i l)).0.0)
+
+pub front : (key : List ℕ) (d n r : ℕ) (xs ends es rest : List ℕ) → n ≤ length xs → n ≤ length ends → length es ≡ length (take n ends)
+    → (r ≡ turns_of key d (length (take n ends)) (take n xs)) × Backed key d (length (take n ends)) (take n xs) es
+    → (r ≡ turns_of key d n xs) × Backed key d n xs (es ++ rest)
+unfolding turns_of
+front key d n r xs ends es rest a b long e =
+    let all : length (take n ends) ≡ n = length-take-le n ends b in (
+      e.0
+          ∙ ap (λ (m : ℕ). sum_below m (λ i. backward_turns key d (get_or (take n xs) i 0))) all
+          ∙ sum_same (λ i. backward_turns key d (get_or (take n xs) i 0)) (λ i. backward_turns key d (get_or xs i 0)) n (λ i l. ap (backward_turns key d) (get_or-take n xs i 0 l)),
+      λ i l.
+          get_or-append es rest 0 i (omega (arith, long, all, l))
+          ∙ e.1 i (omega (arith, all, l))
+          ∙ ap (backward key d) (get_or-take n xs i 0 l),
+    )

@@ -1,7 +1,6 @@
 -- Blocks: one more weighed block is added, at every place; a block that is cleared first; a block's place in the whole. Assumes nothing.
 --   Going, going_start, going_more, going_done    the sum that is there and the sum that is left
---   within-at                                     a block that is named lies within
---   part_length, part_at                          a block lent as a part
+--   block_length, block_at                        a block of the blocks
 --   combined                                      cleared, then mixed
 --   block-fits, room_for, whole-at, next-at, placed, room-some, next-some   where block x lies, and blocks behind it
 --   count-length, within_count, encoded-sum       a parity block, from the numbers of all data blocks
@@ -30,14 +29,11 @@ get_or-zipped f t (x ∷ xs) [] h l = absurd (omega arith)
 get_or-zipped f zero (x ∷ xs) (y ∷ ys) h l = refl
 get_or-zipped f (suc t) (x ∷ xs) (y ∷ ys) h l = get_or-zipped f t xs ys (omega arith) (omega arith)
 
-pub within-at : (B j n len : ℕ) (ns : List ℕ) → Within B ns len → j < length ns → n ≡ get_or ns j 0 → n * B + B ≤ len
-within-at B j n len ns h l e = subst (λ (m : ℕ). m * B + B ≤ len) (sym e) (h.ends j l)
+pub block_length : (at B : ℕ) (xs : List ℕ) → at + B ≤ length xs → length (take B (drop at xs)) ≡ B
+block_length at B xs h = simp (length-take, length-drop) (omega arith)
 
-pub part_length : (at B : ℕ) (xs : List ℕ) → at + B ≤ length xs → length (take (at + B - at) (drop at xs)) ≡ B
-part_length at B xs h = simp (length-take, length-drop) (omega arith)
-
-pub part_at : (at B t : ℕ) (xs : List ℕ) → t < B → get_or (take (at + B - at) (drop at xs)) t 0 ≡ get_or xs (at + t) 0
-part_at at B t xs h = get_or-take (at + B - at) (drop at xs) t 0 (omega arith) ∙ get_or-drop at xs t 0
+pub block_at : (at B t : ℕ) (xs : List ℕ) → t < B → get_or (take B (drop at xs)) t 0 ≡ get_or xs (at + t) 0
+block_at at B t xs h = get_or-take B (drop at xs) t 0 h ∙ get_or-drop at xs t 0
 
 -- what is left of the weighed sum at t, from the place j of the lists on
 left : ℕ → ℕ → ℕ → List ℕ → List ℕ → List ℕ → ℕ
@@ -60,16 +56,15 @@ module _ (B : ℕ) (ns ws blocks acc₀ acc : List ℕ) (same : length ws ≡ le
       ap₂ (λ (xs ys : List ℕ). dot (map (byte_at B t blocks) xs) ys) (drop-cons ns j 0 h) (drop-cons ws j 0 k)
       ∙ ap (λ (m : ℕ). plus (times (byte_at B t blocks (get_or ns j 0)) (get_or ws j 0)) (dot (map (byte_at B t blocks) (drop m ns)) (drop m ws))) (sym (add-one j))
 
-  pub going_more : (j n : ℕ) (out : List ℕ) → j < length ns → n ≡ get_or ns j 0 → n * B + B ≤ length blocks → length acc ≡ B
-      → out ≡ zipped (mixed_one (get_or ws j 0)) (take (n * B + B - n * B) (drop (n * B) blocks)) acc
+  pub going_more : (j : ℕ) (part out : List ℕ) → Within B ns (length blocks) → j < length ns → length acc ≡ B
+      → part ≡ take B (drop (get_or ns j 0 * B) blocks) → out ≡ zipped (mixed_one (get_or ws j 0)) part acc
       → Going B j ns ws blocks acc₀ acc → Going B (j + 1) ns ws blocks acc₀ out
   unfolding Going mixed_one
-  going_more j n out h hn fits hl ho g t ht =
-      let part = take (n * B + B - n * B) (drop (n * B) blocks) in
+  going_more j part out fits h hl hp ho g t ht =
+      let n = get_or ns j 0 in
       let w = get_or ws j 0 in
-      let pl : length part ≡ B = part_length (n * B) B blocks fits in
-      let here : get_or part t 0 ≡ byte_at B t blocks (get_or ns j 0) =
-      part_at (n * B) B t blocks ht ∙ ap (λ (m : ℕ). get_or blocks (m * B + t) 0) hn in
+      let pl : length part ≡ B = ap length hp ∙ block_length (n * B) B blocks (fits.ends j h) in
+      let here : get_or part t 0 ≡ byte_at B t blocks n = ap (λ (xs : List ℕ). get_or xs t 0) hp ∙ block_at (n * B) B t blocks ht in
       ap (λ (l : List ℕ). plus (get_or l t 0) (left B t (j + 1) ns ws blocks)) ho
       ∙ ap (λ (m : ℕ). plus m (left B t (j + 1) ns ws blocks))
       (get_or-zipped (mixed_one w) t part acc (omega arith) (omega arith) ∙ ap (λ (b : ℕ). plus (get_or acc t 0) (times b w)) here)

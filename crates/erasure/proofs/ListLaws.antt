@@ -55,19 +55,19 @@ map_at f (x ∷ xs) (suc i) l = map_at f xs i (omega arith)
 abbrev pub Filled : ℕ → (ℕ → ℕ) → List ℕ → Type 0
 Filled n f xs = (i : ℕ) → i < n → get_or xs i 0 ≡ f i
 
-pub filled_more : (at B k : ℕ) (f : ℕ → ℕ) (xs ys : List ℕ) → k ≡ B → at + B ≤ length xs → length ys ≡ B
-    → Filled at f xs → ((t : ℕ) → t < B → get_or ys t 0 ≡ f (at + t)) → Filled (at + B) f (take at xs ++ (ys ++ drop k (drop at xs)))
-filled_more at B k f xs ys e h l old new i r = go (ltb i at) refl
+pub filled_more : (from at B k to : ℕ) (f : ℕ → ℕ) (xs ys : List ℕ) → at ≡ from → k ≡ B → to ≡ at + B → at + B ≤ length xs → length ys ≡ B
+    → Filled from f xs → ((t : ℕ) → t < B → get_or ys t 0 ≡ f (at + t)) → Filled to f (take at xs ++ (ys ++ drop k (drop at xs)))
+filled_more from at B k to f xs ys s e d h l old new i r = go (ltb i at) refl
   where
     front : length (take at xs) ≡ at
     front = length-take-le at xs (omega arith)
 
     go : (b : Bool) → ltb i at ≡ b → get_or (take at xs ++ (ys ++ drop k (drop at xs))) i 0 ≡ f i
-    go true d =
-        let q : i < at = ltb-true i at d in
-        get_or-append (take at xs) (ys ++ drop k (drop at xs)) 0 i (omega (arith, front)) ∙ get_or-take at xs i 0 q ∙ old i q
-    go false d =
-        let q : at ≤ i = ltb-false i at d in
+    go true b =
+        let q : i < at = ltb-true i at b in
+        get_or-append (take at xs) (ys ++ drop k (drop at xs)) 0 i (omega (arith, front)) ∙ get_or-take at xs i 0 q ∙ old i (omega arith)
+    go false b =
+        let q : at ≤ i = ltb-false i at b in
         let j = i - at in
         let w : at + j ≡ i = omega arith in
         ap (λ (n : ℕ). get_or (take at xs ++ (ys ++ drop k (drop at xs))) n 0) (sym (ap (λ (n : ℕ). n + j) front ∙ w))

@@ -1,17 +1,14 @@
 -- Rebuilding: a lost block, a kept block, and one more of the data blocks. Assumes nothing.
 --   solved-block                       a lost block is the weighed sum that the code makes
 --   rank-in, rank-lost, rank-kept      how many data blocks of lower number are lost
---   group-fits                         a data block lies within the blocks
 --   put-lost, put-kept                 a data block, rebuilt or copied
 --   data_at, data-new                   the data bytes as they lie
-use mathlib.Core.Path.{◌≡◌, sym, ap, ◌∙◌, subst}
+use mathlib.Core.Path.{◌≡◌, sym, ap, ◌∙◌}
 use mathlib.Core.Bool.{Bool, true, false, cond}
 use mathlib.Core.List.{List, [], ◌∷◌, map}
-use Prim.Native.Nat.{ℕ, ◌+◌, ◌-◌, ◌*◌, ◌/◌, ◌%◌, ◌<◌, ◌≤◌}
+use Prim.Native.Nat.{ℕ, ◌+◌, ◌*◌, ◌/◌, ◌%◌, ◌<◌}
 use native.Mathlib.Omega.{arith}
 use lib.ListN.{length, get_or, set, take, drop, replicate, length-map}
-use Rattle.octets.specs.Octets.{put}
-use Rattle.octets.proofs.PartLaws.{put_whole}
 use Rattle.gf256.specs.Field.{plus}
 use Rattle.cauchy.specs.Solve.{row, solve}
 use Rattle.erasure.specs.Group.{byte_at, named, lost_data, sum_of, recovered}
@@ -21,7 +18,7 @@ use Rattle.cauchy.proofs.MixLaws.{unit_at, swap, plus-dot, transposed}
 use Rattle.cauchy.proofs.SolveLaws.{Bytes, row_lt}
 use Rattle.gf256.proofs.SumLaws.{plus_comm, plus-lt}
 use Rattle.erasure.proofs.ChoiceLaws.{rank_lt, rank-next}
-use Rattle.erasure.proofs.BlockLaws.{part_length, part_at, block-fits, placed}
+use Rattle.erasure.proofs.BlockLaws.{block_at, placed}
 
 -- a lost byte as one weighed sum of the bytes that are left: us are the sources and vs the unknowns
 module _ (us vs : List ℕ) (same : length us ≡ length vs) (cross : Cross us vs) (apart : Distinct us) (apart₂ : Distinct vs) where
@@ -77,18 +74,13 @@ module _ (lost : List ℕ) (n i : ℕ) (e : i ≡ length (lost_data lost n)) whe
             ∙ ap (λ (b : Bool). cond b (get_or (recovered (byte_at B x blocks) us vs qs) (length (lost_data lost n)) 0) (byte_at B x blocks n)) (sym t);
       }
 
-pub group-fits : (B k n w len : ℕ) → w ≡ n → n < k → k * B ≤ len → w * B + B ≤ len
-group-fits B k n w len e h l = subst (λ (m : ℕ). m * B + B ≤ len) (sym e) (omega (arith, block-fits B n k h))
-
-pub put-kept : (B n w : ℕ) (lost us vs qs blocks acc₀ acc : List ℕ) → w ≡ n → named lost n ≡ false → w * B + B ≤ length blocks → length acc₀ ≡ B
-    → acc ≡ put 0 (take (w * B + B - w * B) (drop (w * B) blocks)) acc₀ → Put B n lost us vs qs blocks acc
+pub put-kept : (B n : ℕ) (lost us vs qs blocks part acc : List ℕ) → named lost n ≡ false → part ≡ take B (drop (n * B) blocks) → acc ≡ part
+    → Put B n lost us vs qs blocks acc
 unfolding put_byte
-put-kept B n w lost us vs qs blocks acc₀ acc e t fits l o =
-    let part = take (w * B + B - w * B) (drop (w * B) blocks) in
+put-kept B n lost us vs qs blocks part acc t e o =
     record {
       each = λ x h.
-          ap (λ (xs : List ℕ). get_or xs x 0) (o ∙ put_whole part acc₀ (part_length (w * B) B blocks fits ∙ sym l))
-          ∙ part_at (w * B) B x blocks h ∙ ap (λ (m : ℕ). get_or blocks (m * B + x) 0) e
+          ap (λ (xs : List ℕ). get_or xs x 0) (o ∙ e) ∙ block_at (n * B) B x blocks h
           ∙ ap (λ (b : Bool). cond b (get_or (recovered (byte_at B x blocks) us vs qs) (length (lost_data lost n)) 0) (byte_at B x blocks n)) (sym t);
     }
 

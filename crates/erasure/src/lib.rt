@@ -3,247 +3,203 @@
 
 #![tactic(auto)]
 
-ghost use Rattle.std.specs.Prelude.{◌≡◌, [], ◌∷◌, map, ℕ, ◌+◌, ◌*◌, ◌/◌, ◌%◌, ◌<◌, ◌≤◌, length, replicate};
-ghost use Rattle.gf256.specs.Tables.{powers, Logged};
+ghost use Rattle.std.specs.Prelude.{◌≡◌, [], ◌∷◌, map, ℕ, ◌+◌, ◌*◌, ◌/◌, ◌%◌, ◌<◌, ◌≤◌, length, take, drop, replicate, slice_index};
 ghost use Rattle.cauchy.specs.Solve.{row};
-ghost use Rattle.cauchy.specs.System.{Solvable};
+ghost use Rattle.cauchy.specs.System.{Solvable, Solvable-prop};
 ghost use Rattle.erasure.specs.Group.{tabulate, byte_at, count, named, lost_data, encoded};
-ghost use Rattle.erasure.specs.Blocks.{Within, Mixed, Combined, Encoded, EncodedFrom, Solved, put_byte, Put};
+ghost use Rattle.erasure.specs.Blocks.{Within, Mixed, Combined, EncodedFrom, Solved, put_byte, Put};
 
-// Sets every byte to 0.
-fn clear(acc: &mut [u8])
-    ensures { acc.new ≡ replicate (length acc.old) 0 }
-{
-    let mut i: usize = 0;
-    while i < acc.len() {
-        acc[i] = 0;
-        i += 1;
+use gf256::Field;
+
+// Blocks of one size, laid end to end, and the field in which they are weighed.
+#[derive(Clone, Copy)]
+pub struct Blocks<'a> {
+    pub field: &'a Field,
+    pub size: usize,
+    pub bytes: &'a [u8],
+}
+
+impl Blocks<'_> {
+    // Block n.
+    fn block(&self, n: u8) -> &[u8]
+        requires { n * self.now.size + self.now.size ≤ length self.now.bytes.now }
+        ensures { result.now ≡ take self.now.size (drop (n * self.now.size) self.now.bytes.now) }
+    {
+        let at = usize::from(n) * self.size;
+        &self.bytes[at..at + self.size]
+    }
+
+    // Adds the blocks that ns names, weighed by ws, to acc.
+    fn add(&self, ns: &[u8], ws: &[u8], acc: &mut [u8])
+        requires ws_len { length ws.now ≡ length ns.now }
+        requires acc_len { length acc.old ≡ self.now.size }
+        requires within { Within self.now.size ns.now (length self.now.bytes.now) }
+        ensures { Mixed self.now.size ns.now ws.now self.now.bytes.now acc.old acc.new }
+    {
+        for (j, n) in ns.iter().enumerate() {
+            self.field.mix(ws[j], self.block(*n), acc);
+        }
+    }
+
+    // Adds the blocks that ns names to one, weighed by vs, and to two, weighed by ws.
+    fn add_two(&self, ns: &[u8], vs: &[u8], ws: &[u8], one: &mut [u8], two: &mut [u8])
+        requires vs_len { (length vs.now ≡ length ns.now) × (length ws.now ≡ length ns.now) }
+        requires one_len { (length one.old ≡ self.now.size) × (length two.old ≡ self.now.size) }
+        requires within { Within self.now.size ns.now (length self.now.bytes.now) }
+        ensures mixed { Mixed self.now.size ns.now vs.now self.now.bytes.now one.old one.new }
+        ensures mixed_2 { Mixed self.now.size ns.now ws.now self.now.bytes.now two.old two.new }
+    {
+        for (j, n) in ns.iter().enumerate() {
+            self.field.mix_two(vs[j], ws[j], self.block(*n), one, two);
+        }
     }
 }
 
-// Adds the blocks that ns names, weighed by ws, to acc.
-fn add_blocks(
-    exp: &[u8; 512],
-    log: &[u8; 256],
-    size: usize,
-    ns: &[u8],
-    ws: &[u8],
-    blocks: &[u8],
-    acc: &mut [u8],
-)
-    requires exp_value { exp.now ≡ powers }
-    requires logged { Logged log.now }
-    requires ws_len { length ws.now ≡ length ns.now }
-    requires acc_len { length acc.old ≡ size }
-    requires within { Within size ns.now (length blocks.now) }
-    ensures { Mixed size ns.now ws.now blocks.now acc.old acc.new }
-{
-    let mut j: usize = 0;
-    while j < ns.len() {
-        let n = gf256::wide(ns[j]);
-        let at = n * size;
-        let end = at + size;
-        gf256::mix(exp, log, ws[j], &blocks[at..end], acc);
-        j += 1;
+// The k data blocks of a group, and their numbers.
+#[derive(Clone, Copy)]
+pub struct Data<'a> {
+    pub blocks: Blocks<'a>,
+    pub k: u8,
+    pub numbers: &'a [u8],
+    pub ghost counted: { numbers.now ≡ count 0 k },
+    pub ghost whole: { length blocks.bytes.now ≡ k * blocks.size },
+}
+
+impl Data<'_> {
+    // Writes the weights of the data blocks in the parity block numbered u, which is the sum of that one parity block, weighed by 1; and clears the block
+    // that they will be added to.
+    fn begin(&self, u: u8, ws: &mut [u8], acc: &mut [u8])
+        requires { length ws.old ≡ self.now.k }
+        ensures ws_after { ws.new ≡ map (λ (q : ℕ). row q (u ∷ []) (1 ∷ [])) self.now.numbers.now }
+        ensures acc_after { acc.new ≡ replicate (length acc.old) 0 }
+    {
+        cauchy::weights_of(self.blocks.field, &[u], &[1], self.numbers, ws);
+        acc.fill(0);
+    }
+
+    // Writes the parity block numbered u. ws is room for its weights.
+    fn encode_one(&self, u: u8, ws: &mut [u8], out: &mut [u8])
+        requires ws_len { length ws.old ≡ self.now.k }
+        requires out_len { length out.old ≡ self.now.blocks.size }
+        ensures { EncodedFrom self.now.blocks.size self.now.k u 1 self.now.blocks.bytes.now out.new }
+    {
+        self.begin(u, ws, out);
+        self.blocks.add(self.numbers, ws, out);
+    }
+
+    // Writes the parity blocks numbered u and u + 1. vs and ws are room for their weights.
+    fn encode_two(&self, u: u8, vs: &mut [u8], ws: &mut [u8], out: &mut [u8])
+        requires u_bound { u < 255 }
+        requires vs_len { (length vs.old ≡ self.now.k) × (length ws.old ≡ self.now.k) }
+        requires out_len { length out.old ≡ 2 * self.now.blocks.size }
+        ensures { EncodedFrom self.now.blocks.size self.now.k u 2 self.now.blocks.bytes.now out.new }
+    {
+        let (one, two) = out.split_at_mut(self.blocks.size);
+        self.begin(u, vs, one);
+        self.begin(u + 1, ws, two);
+        self.blocks.add_two(self.numbers, vs, ws, one, two);
+    }
+
+    // Writes the p parity blocks, two at a time, so that each data block is looked through once for two of them. vs and ws are room for weights.
+    pub fn encode(&self, p: u8, vs: &mut [u8], ws: &mut [u8], parity: &mut [u8])
+        requires vs_len { (length vs.old ≡ self.now.k) × (length ws.old ≡ self.now.k) }
+        requires le_size { (1 ≤ self.now.blocks.size) × (self.now.k + p ≤ 64) }
+        requires parity_len { length parity.old ≡ p * self.now.blocks.size }
+        ensures { parity.new ≡ encoded self.now.blocks.size self.now.k p self.now.blocks.bytes.now }
+    {
+        let size = self.blocks.size;
+        for i in 0..p / 2 {
+            let x = 2 * i;
+            let at = usize::from(x) * size;
+            let end = at + 2 * size;
+            self.encode_two(self.k + x, vs, ws, &mut parity[at..end]);
+        }
+        if p % 2 == 1 {
+            let x = p - 1;
+            let at = usize::from(x) * size;
+            let end = at + size;
+            self.encode_one(self.k + x, vs, &mut parity[at..end]);
+        }
     }
 }
 
-// Writes to acc what the data blocks qs make of the sum of the parity blocks us, weighed by cs. ws is room for the weights.
-fn combine(
-    exp: &[u8; 512],
-    log: &[u8; 256],
-    size: usize,
-    us: &[u8],
-    cs: &[u8],
-    qs: &[u8],
-    ws: &mut [u8],
-    blocks: &[u8],
-    acc: &mut [u8],
-)
-    requires exp_value { exp.now ≡ powers }
-    requires logged { Logged log.now }
-    requires cs_len { length cs.now ≡ length us.now }
-    requires ws_len { length ws.old ≡ length qs.now }
-    requires acc_len { length acc.old ≡ size }
-    requires within { Within size qs.now (length blocks.now) }
-    ensures { Combined size us.now cs.now qs.now blocks.now acc.new }
-{
-    cauchy::weights_of(exp, log, us, cs, qs, ws);
-    clear(acc);
-    add_blocks(exp, log, size, qs, ws, blocks, acc);
+// A group with lost blocks: its k data blocks are rebuilt from the parity blocks us, the lost data blocks vs and the kept ones qs.
+#[derive(Clone, Copy)]
+pub struct Left<'a> {
+    pub blocks: Blocks<'a>,
+    pub k: u8,
+    pub lost: &'a [u8],
+    pub us: &'a [u8],
+    pub vs: &'a [u8],
+    pub qs: &'a [u8],
+    pub ghost solvable: { Solvable us.now vs.now } by { Solvable-prop us.now vs.now },
+    pub ghost lost_named: { vs.now ≡ lost_data lost.now k },
+    pub ghost sources: { Within blocks.size us.now (length blocks.bytes.now) },
+    pub ghost kept: { Within blocks.size qs.now (length blocks.bytes.now) },
+    pub ghost whole: { k * blocks.size ≤ length blocks.bytes.now },
+    pub ghost in_range: { (i : ℕ) → slice_index blocks.bytes.now i < 256 },
 }
 
-// Adds the blocks that ns names to one, weighed by vs, and to two, weighed by ws.
-fn add_two(
-    exp: &[u8; 512],
-    log: &[u8; 256],
-    size: usize,
-    ns: &[u8],
-    vs: &[u8],
-    ws: &[u8],
-    blocks: &[u8],
-    one: &mut [u8],
-    two: &mut [u8],
-)
-    requires exp_value { exp.now ≡ powers }
-    requires logged { Logged log.now }
-    requires vs_len { (length vs.now ≡ length ns.now) × (length ws.now ≡ length ns.now) }
-    requires one_len { (length one.old ≡ size) × (length two.old ≡ size) }
-    requires within { Within size ns.now (length blocks.now) }
-    ensures mixed { Mixed size ns.now vs.now blocks.now one.old one.new }
-    ensures mixed_2 { Mixed size ns.now ws.now blocks.now two.old two.new }
-{
-    let mut j: usize = 0;
-    while j < ns.len() {
-        let n = gf256::wide(ns[j]);
-        let at = n * size;
-        let end = at + size;
-        gf256::mix_two(exp, log, vs[j], ws[j], &blocks[at..end], one, two);
-        j += 1;
+impl Left<'_> {
+    // Writes to acc what the kept data blocks make of the sum of the parity blocks us, weighed by cs. ws is room for the weights.
+    fn combine(&self, cs: &[u8], ws: &mut [u8], acc: &mut [u8])
+        requires cs_len { length cs.now ≡ length self.now.us.now }
+        requires ws_len { length ws.old ≡ length self.now.qs.now }
+        requires acc_len { length acc.old ≡ self.now.blocks.size }
+        ensures { Combined self.now.blocks.size self.now.us.now cs.now self.now.qs.now self.now.blocks.bytes.now acc.new }
+    {
+        cauchy::weights_of(self.blocks.field, self.us, cs, self.qs, ws);
+        acc.fill(0);
+        self.blocks.add(self.qs, ws, acc);
     }
-}
 
-// Writes the weights of the data blocks qs in the parity block numbered u, which is the sum of that one parity block, weighed by 1; and clears the block
-// that they will be added to.
-fn begin_block(exp: &[u8; 512], log: &[u8; 256], u: u8, qs: &[u8], ws: &mut [u8], acc: &mut [u8])
-    requires exp_value { exp.now ≡ powers }
-    requires logged { Logged log.now }
-    requires ws_len { length ws.old ≡ length qs.now }
-    ensures ws_after { ws.new ≡ map (λ (q : ℕ). row q (u ∷ []) (1 ∷ [])) qs.now }
-    ensures acc_after { acc.new ≡ replicate (length acc.old) 0 }
-{
-    let us: [u8; 1] = [u];
-    let cs: [u8; 1] = [1];
-    cauchy::weights_of(exp, log, &us, &cs, qs, ws);
-    clear(acc);
-}
-
-// Writes the parity blocks numbered u and u + 1. vs and ws are room for their weights.
-fn encode_two(
-    exp: &[u8; 512],
-    log: &[u8; 256],
-    size: usize,
-    k: u8,
-    u: u8,
-    qs: &[u8],
-    vs: &mut [u8],
-    ws: &mut [u8],
-    blocks: &[u8],
-    one: &mut [u8],
-    two: &mut [u8],
-)
-    requires exp_value { exp.now ≡ powers }
-    requires logged { Logged log.now }
-    requires qs_value { qs.now ≡ count 0 k }
-    requires u_bound { u < 255 }
-    requires vs_len { (length vs.old ≡ k) × (length ws.old ≡ k) }
-    requires one_len { (length one.old ≡ size) × (length two.old ≡ size) }
-    requires blocks_len { length blocks.now ≡ k * size }
-    ensures encoded { Encoded size k u blocks.now one.new }
-    ensures encoded_2 { Encoded size k (u + 1) blocks.now two.new }
-{
-    begin_block(exp, log, u, qs, vs, one);
-    begin_block(exp, log, u + 1, qs, ws, two);
-    add_two(exp, log, size, qs, vs, ws, blocks, one, two);
-}
-
-// Writes n parity blocks, one or two, from the number u on. spare is room for a block.
-fn encode_some(
-    exp: &[u8; 512],
-    log: &[u8; 256],
-    size: usize,
-    k: u8,
-    u: u8,
-    n: u8,
-    qs: &[u8],
-    vs: &mut [u8],
-    ws: &mut [u8],
-    spare: &mut [u8],
-    blocks: &[u8],
-    out: &mut [u8],
-)
-    requires exp_value { exp.now ≡ powers }
-    requires logged { Logged log.now }
-    requires qs_value { qs.now ≡ count 0 k }
-    requires u_bound { (u < 255) × (1 ≤ n) × (n ≤ 2) }
-    requires vs_len { (length vs.old ≡ k) × (length ws.old ≡ k) }
-    requires spare_len { (length spare.old ≡ size) × (length out.old ≡ n * size) }
-    requires blocks_len { length blocks.now ≡ k * size }
-    ensures { EncodedFrom size k u n blocks.now out.new }
-{
-    if n == 1 {
-        begin_block(exp, log, u, qs, vs, out);
-        add_blocks(exp, log, size, qs, vs, blocks, out);
-    } else {
-        encode_two(
-            exp,
-            log,
-            size,
-            k,
-            u,
-            qs,
-            vs,
-            ws,
-            blocks,
-            &mut out[0..size],
-            spare,
-        );
-        octets::copy(out, size, spare);
+    // Writes the lost data block that stands at i among vs. Its weights in the parity blocks us are what is solved for the unit, with us and vs exchanged,
+    // since a weight is the same either way round. cs and ws are room for the weights.
+    fn rebuild(&self, i: usize, cs: &mut [u8], ws: &mut [u8], acc: &mut [u8])
+        requires i_in_bounds { i < length self.now.us.now }
+        requires cs_len { length cs.old ≡ length self.now.us.now }
+        requires ws_len { length ws.old ≡ length self.now.qs.now }
+        requires acc_len { length acc.old ≡ self.now.blocks.size }
+        ensures { Solved self.now.blocks.size i self.now.us.now self.now.vs.now self.now.qs.now self.now.blocks.bytes.now acc.new }
+    {
+        cs.fill(0);
+        cs[i] = 1;
+        cauchy::solve_for(self.blocks.field, self.vs, self.us, cs);
+        self.combine(cs, ws, acc);
+        self.blocks.add(self.us, cs, acc);
     }
-}
 
-// How many of the parity blocks that are left go together.
-fn together(left: u8) -> u8
-    requires { 1 ≤ left }
-    ensures { (1 ≤ result) × (result ≤ 2) × (result ≤ left) }
-{
-    if left < 2 { 1 } else { 2 }
-}
+    // Writes data block n, which is rebuilt where it is lost, and copied where not. i of the data blocks below it are lost; answers how many up to it are.
+    fn put(&self, n: u8, i: usize, cs: &mut [u8], ws: &mut [u8], acc: &mut [u8]) -> usize
+        requires n_lt_k { (n < self.now.k) × (i ≡ length (lost_data self.now.lost.now n)) }
+        requires cs_len { length cs.old ≡ length self.now.us.now }
+        requires ws_len { length ws.old ≡ length self.now.qs.now }
+        requires acc_len { length acc.old ≡ self.now.blocks.size }
+        ensures value { result ≡ length (lost_data self.now.lost.now (n + 1)) }
+        ensures put { Put self.now.blocks.size n self.now.lost.now self.now.us.now self.now.vs.now self.now.qs.now self.now.blocks.bytes.now acc.new }
+    {
+        if is_named(self.lost, n) {
+            self.rebuild(i, cs, ws, acc);
+            return i + 1;
+        }
+        acc.copy_from_slice(self.blocks.block(n));
+        i
+    }
 
-// Writes the p parity blocks, two at a time, so that each data block is looked through once for two of them.
-pub fn encode_blocks(
-    exp: &[u8; 512],
-    log: &[u8; 256],
-    size: usize,
-    k: u8,
-    p: u8,
-    qs: &[u8],
-    vs: &mut [u8],
-    ws: &mut [u8],
-    spare: &mut [u8],
-    blocks: &[u8],
-    parity: &mut [u8],
-)
-    requires exp_value { exp.now ≡ powers }
-    requires logged { Logged log.now }
-    requires qs_value { qs.now ≡ count 0 k }
-    requires vs_len { (length vs.old ≡ k) × (length ws.old ≡ k) }
-    requires le_size { (1 ≤ size) × (k + p ≤ 64) × (length spare.old ≡ size) }
-    requires blocks_len { length blocks.now ≡ k * size }
-    requires parity_len { length parity.old ≡ p * size }
-    ensures { parity.new ≡ encoded size k p blocks.now }
-{
-    let mut x: u8 = 0;
-    let mut at: usize = 0;
-    while x < p {
-        let n = together(p - x);
-        let end = at + gf256::wide(n) * size;
-        encode_some(
-            exp,
-            log,
-            size,
-            k,
-            k + x,
-            n,
-            qs,
-            vs,
-            ws,
-            spare,
-            blocks,
-            &mut parity[at..end],
-        );
-        at = end;
-        x += n;
+    // Writes the k data blocks, one after the other. cs and ws are room for weights.
+    pub fn put_all(&self, cs: &mut [u8], ws: &mut [u8], group: &mut [u8])
+        requires cs_len { length cs.old ≡ length self.now.us.now }
+        requires ws_len { length ws.old ≡ length self.now.qs.now }
+        requires group_len { length group.old ≡ self.now.k * self.now.blocks.size }
+        ensures { group.new ≡ tabulate (self.now.k * self.now.blocks.size) (λ (i : ℕ). put_byte self.now.lost.now self.now.us.now self.now.vs.now self.now.qs.now (byte_at self.now.blocks.size (i % self.now.blocks.size) self.now.blocks.bytes.now) (i / self.now.blocks.size)) }
+    {
+        let size = self.blocks.size;
+        let mut i: usize = 0;
+        for n in 0..self.k {
+            let at = usize::from(n) * size;
+            let end = at + size;
+            i = self.put(n, i, cs, ws, &mut group[at..end]);
+        }
     }
 }
 
@@ -251,139 +207,5 @@ pub fn encode_blocks(
 pub fn is_named(lost: &[u8], n: u8) -> bool
     ensures { result ≡ named lost.now n }
 {
-    let mut i = 0;
-    while i < lost.len() {
-        if lost[i] == n {
-            return true;
-        }
-        i += 1;
-    }
-    false
-}
-
-// Writes the lost data block that stands at i among vs. Its weights in the parity blocks us are what is solved for the unit, with us and vs exchanged,
-// since a weight is the same either way round. cs and ws are room for the weights.
-fn rebuild_block(
-    exp: &[u8; 512],
-    log: &[u8; 256],
-    size: usize,
-    i: usize,
-    us: &[u8],
-    vs: &[u8],
-    qs: &[u8],
-    cs: &mut [u8],
-    ws: &mut [u8],
-    blocks: &[u8],
-    acc: &mut [u8],
-)
-    requires exp_value { exp.now ≡ powers }
-    requires logged { Logged log.now }
-    requires solvable { Solvable us.now vs.now }
-    requires i_in_bounds { i < length us.now }
-    requires cs_len { length cs.old ≡ length us.now }
-    requires ws_len { length ws.old ≡ length qs.now }
-    requires acc_len { length acc.old ≡ size }
-    requires within { Within size us.now (length blocks.now) }
-    requires within_2 { Within size qs.now (length blocks.now) }
-    ensures { Solved size i us.now vs.now qs.now blocks.now acc.new }
-{
-    clear(cs);
-    cs[i] = 1;
-    cauchy::solve_for(exp, log, vs, us, cs);
-    combine(exp, log, size, us, cs, qs, ws, blocks, acc);
-    add_blocks(exp, log, size, us, cs, blocks, acc);
-}
-
-// Writes data block n, which is rebuilt where it is lost, and copied where not. i of the data blocks below it are lost; answers how many up to it are.
-fn put_block(
-    exp: &[u8; 512],
-    log: &[u8; 256],
-    size: usize,
-    k: u8,
-    n: u8,
-    i: usize,
-    lost: &[u8],
-    us: &[u8],
-    vs: &[u8],
-    qs: &[u8],
-    cs: &mut [u8],
-    ws: &mut [u8],
-    blocks: &[u8],
-    acc: &mut [u8],
-) -> usize
-    requires exp_value { exp.now ≡ powers }
-    requires logged { Logged log.now }
-    requires solvable { Solvable us.now vs.now }
-    requires vs_value { vs.now ≡ lost_data lost.now k }
-    requires n_lt_k { (n < k) × (i ≡ length (lost_data lost.now n)) }
-    requires cs_len { length cs.old ≡ length us.now }
-    requires ws_len { length ws.old ≡ length qs.now }
-    requires acc_len { length acc.old ≡ size }
-    requires within { Within size us.now (length blocks.now) }
-    requires within_2 { Within size qs.now (length blocks.now) }
-    requires size_in_bounds { k * size ≤ length blocks.now }
-    ensures value { result ≡ length (lost_data lost.now (n + 1)) }
-    ensures put { Put size n lost.now us.now vs.now qs.now blocks.now acc.new }
-{
-    if is_named(lost, n) {
-        rebuild_block(exp, log, size, i, us, vs, qs, cs, ws, blocks, acc);
-        return i + 1;
-    }
-    let at = gf256::wide(n) * size;
-    let end = at + size;
-    octets::copy(acc, 0, &blocks[at..end]);
-    i
-}
-
-// Writes the k data blocks, one after the other.
-pub fn put_blocks(
-    exp: &[u8; 512],
-    log: &[u8; 256],
-    size: usize,
-    k: u8,
-    lost: &[u8],
-    us: &[u8],
-    vs: &[u8],
-    qs: &[u8],
-    cs: &mut [u8],
-    ws: &mut [u8],
-    blocks: &[u8],
-    group: &mut [u8],
-)
-    requires exp_value { exp.now ≡ powers }
-    requires logged { Logged log.now }
-    requires solvable { Solvable us.now vs.now }
-    requires vs_value { vs.now ≡ lost_data lost.now k }
-    requires cs_len { length cs.old ≡ length us.now }
-    requires ws_len { length ws.old ≡ length qs.now }
-    requires within { Within size us.now (length blocks.now) }
-    requires within_2 { Within size qs.now (length blocks.now) }
-    requires size_in_bounds { k * size ≤ length blocks.now }
-    requires group_len { length group.old ≡ k * size }
-    ensures { group.new ≡ tabulate (k * size) (λ (i : ℕ). put_byte lost.now us.now vs.now qs.now (byte_at size (i % size) blocks.now) (i / size)) }
-{
-    let mut n: u8 = 0;
-    let mut at: usize = 0;
-    let mut i: usize = 0;
-    while n < k {
-        let end = at + size;
-        i = put_block(
-            exp,
-            log,
-            size,
-            k,
-            n,
-            i,
-            lost,
-            us,
-            vs,
-            qs,
-            cs,
-            ws,
-            blocks,
-            &mut group[at..end],
-        );
-        at = end;
-        n += 1;
-    }
+    lost.contains(&n)
 }

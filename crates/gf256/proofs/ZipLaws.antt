@@ -1,10 +1,9 @@
 -- A list being changed in place, by a function of two elements. Assumes nothing.
 --   zip_to, zip-none, zip_more, zip-done     the first i elements are changed
 --   first, zipped_map                       a function of the first of the two
---   bit-zero, bit-one                       a bit times a number
 use mathlib.Core.Path.{◌≡◌, refl, sym, ap, ap₂, ◌∙◌}
 use mathlib.Core.List.{List, [], ◌∷◌, map}
-use Prim.Native.Nat.{ℕ, zero, suc, ◌+◌, ◌*◌, ◌<◌}
+use Prim.Native.Nat.{ℕ, zero, suc, ◌+◌, ◌<◌}
 use native.Mathlib.Numerals.{add-one}
 use native.Mathlib.Omega.{arith}
 use lib.ListN.{get_or, length, set}
@@ -60,13 +59,3 @@ unfolding zipped
 zipped_map f [] ys h = refl
 zipped_map f (x ∷ xs) [] h = absurd (omega arith)
 zipped_map f (x ∷ xs) (y ∷ ys) h = ap (λ (l : List ℕ). f x ∷ l) (zipped_map f xs ys (omega arith))
-
--- a bit times a number
-pub bit-zero : (b m : ℕ) → b ≡ 0 → 0 ≡ b * m
-bit-zero zero m h = omega arith
-bit-zero (suc b) m h = absurd (omega arith)
-
-pub bit-one : (b m : ℕ) → b < 2 → (b ≡ 0 → ⊥) → m ≡ b * m
-bit-one zero m h n = absurd (n refl)
-bit-one (suc zero) m h n = omega arith
-bit-one (suc (suc b)) m h n = absurd (omega arith)

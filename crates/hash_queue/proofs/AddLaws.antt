@@ -1,6 +1,5 @@
 -- A message in its place. Assumes nothing.
 --   block-waits       one more message waits
---   room-kept         the buffer of places keeps its length
 --   all-inside        what is left out of the messages lies in the buffer
 --   block-hashed      the last place is taken, and all are hashed
 use Prim.Native.Nat.{ℕ, ◌+◌, ◌*◌, ◌-◌, ◌≤◌, ◌<◌}
@@ -36,9 +35,6 @@ module _ (s : Sum) (f : Form) (head far at p p' pad ys : List ℕ) (a B : ℕ) (
   pub all-inside : Inside far (set at s.fill (a + f.cut)) f.gap places
   all-inside = inside-set s f (a + f.cut) far at sound left
 
-  pub room-kept : length p' ≡ 3072
-  room-kept = length-laid s f (a + f.cut) far at p p' (said head a B far) pad ys sound.known sound.free room padded-said whole kept lent ∙ lp
-
   pub block-waits : s.fill + 1 < places
       → Sound (record { x = s.x; fill = s.fill + 1 }) f far (set at s.fill (a + f.cut))
       × (flushed (record { x = s.x; fill = s.fill + 1 }) f far (set at s.fill (a + f.cut)) p' ≡ xors (flushed s f far at p) (sha256 (said head a B far)))
@@ -51,6 +47,6 @@ module _ (s : Sum) (f : Form) (head far at p p' pad ys : List ℕ) (a B : ℕ) (
       → Sound (record { x = y; fill = 0 }) f far (set at s.fill (a + f.cut))
       × (flushed (record { x = y; fill = 0 }) f far (set at s.fill (a + f.cut)) p' ≡ xors (flushed s f far at p) (sha256 (said head a B far)))
   block-hashed y last l e = (
-    sound-all s f (a + f.cut) far at sound left y,
+    sound-all s f (a + f.cut) far at sound left y l,
     all-hashed s f (a + f.cut) far at p p' (said head a B far) pad ys sound.known sound.free room padded-said whole kept lent y last l e,
   )

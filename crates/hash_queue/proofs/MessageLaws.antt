@@ -6,7 +6,7 @@
 use Prim.Native.Nat.{ℕ, ◌+◌, ◌-◌, ◌*◌, ◌/◌, ◌%◌, ◌≤◌, ◌<◌}
 use native.Mathlib.Omega.{arith}
 use mathlib.Core.Path.{◌≡◌, refl, sym, ap, ap₂, ◌∙◌}
-use mathlib.Core.Logic.{◌⊎◌, inl, inr}
+use native.Mathlib.Decide.{ℕ_discrete}
 use mathlib.Core.List.{List, [], ◌++◌, append_assoc, append-nil}
 use lib.ListN.{length, take, drop, length-append, replicate, length-replicate, take-append-drop}
 use lib.Seq.{take_at, drop_at}
@@ -82,9 +82,9 @@ module _ (head xs pad e : List ℕ) (a B : ℕ) (f : Form) (cut : Cut f (length 
       ∙ part-add a (f.cut + f.gap) (B - f.cut - f.gap) xs
       ∙ ap₂ (λ (l : List ℕ) (n : ℕ). l ++ part n (B - f.cut - f.gap) xs) (part-add a f.cut f.gap xs) at)
 
-  joined-parts : (f.gap ≡ 0) ⊎ (length head + f.cut ≡ 64) → take 64 e ++ g ++ drop 64 e ≡ said head a B xs ++ pad
+  joined-parts : Dec (f.gap ≡ 0) → take 64 e ++ g ++ drop 64 e ≡ said head a B xs ++ pad
   unfolding short said
-  joined-parts (inl none) =
+  joined-parts (yes none) =
       let x : List ℕ = part a f.cut xs in
       let empty : g ≡ [] = ap (λ (n : ℕ). part (a + f.cut) n xs) none in
       ap (λ (l : List ℕ). take 64 e ++ l ++ drop 64 e) empty
@@ -93,7 +93,8 @@ module _ (head xs pad e : List ℕ) (a B : ℕ) (f : Form) (cut : Cut f (length 
       ∙ here
       ∙ ap (λ (l : List ℕ). l ++ pad)
       (append_assoc head x rest ∙ ap (λ (l : List ℕ). head ++ (l ++ rest)) (sym (ap (λ (l : List ℕ). x ++ l) empty ∙ append-nil x)) ∙ ap (λ (l : List ℕ). head ++ l) middle)
-  joined-parts (inr after) =
+  joined-parts (no some) =
+      let after : length head + f.cut ≡ 64 = cut.behind (omega arith) in
       let x : List ℕ = part a f.cut xs in
       let front : List ℕ = head ++ x in
       let lx : length x ≡ f.cut = length_part a f.cut xs (omega (arith, cut.inner)) in
@@ -104,7 +105,7 @@ module _ (head xs pad e : List ℕ) (a B : ℕ) (f : Form) (cut : Cut f (length 
       ∙ ap (λ (l : List ℕ). l ++ pad) (ap (λ (l : List ℕ). l ++ rest) (append_assoc head x g) ∙ append_assoc head (x ++ g) rest ∙ ap (λ (l : List ℕ). head ++ l) middle)
 
   pub joined_is : take 64 e ++ g ++ drop 64 e ≡ said head a B xs ++ pad
-  joined_is = joined-parts cut.behind
+  joined_is = joined-parts (ℕ_discrete f.gap 0)
 
 pub said-long : (head xs : List ℕ) (a B : ℕ) → a + B ≤ length xs → length (said head a B xs) ≡ length head + B
 unfolding said
@@ -127,7 +128,7 @@ module _ (h B len : ℕ) (short_head : h ≤ 64) (small : B ≤ 4096) (long : le
         shaped = record { some = omega (arith, padding-is); few = few; blocks = omega (arith, padding-is); gaps = refl };
         whole = omega arith;
         inner = omega arith;
-        behind = inl refl;
+        behind = λ h. absurd (omega arith);
         short_head = short_head;
         small = small;
       }
@@ -138,7 +139,7 @@ module _ (h B len : ℕ) (short_head : h ≤ 64) (small : B ≤ 4096) (long : le
         shaped = record { some = omega (arith, padding-is); few = omega (arith, padding-is); blocks = omega (arith, padding-is); gaps = omega (arith, padding-is) };
         whole = omega (arith, padding-is);
         inner = omega (arith, padding-is);
-        behind = inr (omega arith);
+        behind = λ _. omega arith;
         short_head = short_head;
         small = small;
       }

@@ -87,13 +87,14 @@ module _ (p : List ℕ) (f : Form) (far : List ℕ) where
       let z : List ℕ = hashes p f.long far at f.gap s.fill in
       ap (λ (x : List ℕ). xors x z) e ∙ xors-swap s.x h z
 
-pub sound-with : (s : Sum) (f : Form) (y far at : List ℕ) → Sound s f far at → Sound (record { x = y; fill = s.fill }) f far at
-sound-with s f y far at sound = record { known = sound.known; free = sound.free; some = sound.some; inside = sound.inside }
+pub sound-with : (s : Sum) (f : Form) (y far at : List ℕ) → length y ≡ 32 → Sound s f far at → Sound (record { x = y; fill = s.fill }) f far at
+sound-with s f y far at l sound = record { long = l; known = sound.known; free = sound.free; some = sound.some; inside = sound.inside }
 
 -- what is left out
-pub sound_none : (s : Sum) (f : Form) (far : List ℕ) → s.fill ≡ 0 → Sound s f far (replicate places 0)
-sound_none s f far e =
+pub sound_none : (s : Sum) (f : Form) (far : List ℕ) → length s.x ≡ 32 → s.fill ≡ 0 → Sound s f far (replicate places 0)
+sound_none s f far l e =
     record {
+      long = l;
       known = refl;
       free = omega arith;
       some = λ h. absurd (omega arith);
@@ -115,10 +116,10 @@ module _ (s : Sum) (f : Form) (v : ℕ) (far at : List ℕ) (sound : Sound s f f
   still-long = length-set at s.fill v ∙ sound.known
 
   pub sound-waits : s.fill + 1 < places → Sound (record { x = s.x; fill = s.fill + 1 }) f far (set at s.fill v)
-  sound-waits b = record { known = still-long; free = omega arith; some = λ _. omega arith; inside = λ _. inside-set }
+  sound-waits b = record { long = sound.long; known = still-long; free = omega arith; some = λ _. omega arith; inside = λ _. inside-set }
 
-  pub sound-all : (y : List ℕ) → Sound (record { x = y; fill = 0 }) f far (set at s.fill v)
-  sound-all y = record { known = still-long; free = omega arith; some = λ _. omega arith; inside = λ _. inside-set }
+  pub sound-all : (y : List ℕ) → length y ≡ 32 → Sound (record { x = y; fill = 0 }) f far (set at s.fill v)
+  sound-all y l = record { long = l; known = still-long; free = omega arith; some = λ _. omega arith; inside = λ _. inside-set }
 
 -- a part before the one that is put in place
 part-before : (b m a : ℕ) (ys xs : List ℕ) → b + m ≤ a → a ≤ length xs → part b m (put a ys xs) ≡ part b m xs

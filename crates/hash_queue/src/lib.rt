@@ -10,19 +10,31 @@ ghost use Rattle.octets.specs.Octets.{xors};
 ghost use Rattle.sha256.specs.Sha256 as S;
 ghost use Rattle.sha256_lanes.specs.Rounds.{Inside};
 ghost use Rattle.hash_queue.specs.declared.Form.{Form};
-ghost use Rattle.hash_queue.specs.Waiting.{Shaped, Cut, Sound, places, said, short, hashes, flushed};
+ghost use Rattle.hash_queue.specs.Waiting.{Shaped, Cut, places, said, short, hashes, Ready, held};
+
+mod kind;
+
+pub use kind::Kind;
 
 // How many messages are hashed side by side.
 const PLACES: usize = 16;
 
 // The bytes of all places, of which one has 192 at the most.
-pub const ROOM: usize = 3072;
+const ROOM: usize = 3072;
 
 // A digest, and how many messages wait to be hashed into it.
 #[derive(Clone, Copy)]
 pub struct Sum {
     pub x: [u8; 32],
     pub fill: usize,
+}
+
+// A sum, and the places of the messages that wait: where in the lent buffer lies what is left out of each, and the rest of it.
+#[derive(Clone, Copy)]
+pub struct Queue {
+    pub sum: Sum,
+    pub at: [usize; 16],
+    pub places: [u8; ROOM],
 }
 
 // How messages of one length are cut: `gap` bytes of the block behind its first `cut` are hashed where they lie. What is left has `long` bytes with
@@ -32,34 +44,6 @@ pub struct Form {
     pub cut: usize,
     pub gap: usize,
     pub long: usize,
-}
-
-// How messages with a head of `head` bytes and a block of `size` bytes are cut, whose padding has `pad` bytes.
-pub fn form_of(head: usize, size: usize, pad: usize) -> Form
-    requires { (head ≤ 64) × (size ≤ 4096) × (pad ≡ length (S.padding (head + size))) }
-    ensures { Cut result head size }
-{
-    let whole = head + size;
-    if whole + pad <= 192 {
-        return Form {
-            cut: 0,
-            gap: 0,
-            long: whole + pad,
-        };
-    }
-    let gap = whole / 64 * 64 - 64;
-    Form {
-        cut: 64 - head,
-        gap,
-        long: whole + pad - gap,
-    }
-}
-
-// A sum for which nothing waits.
-pub fn start(x: [u8; 32]) -> Sum
-    ensures { (result.fill ≡ 0) × (result.x ≡ x) }
-{
-    Sum { x, fill: 0 }
 }
 
 // Writes a message but for what is hashed where it lies: the head, what is left of the block from `a` on in `far`, and the padding.
@@ -84,89 +68,91 @@ fn places_of(at: &[usize; 16], fill: usize) -> [usize; 16]
     ensures { ((i : ℕ) → i < fill → get_or result i 0 ≡ get_or at.now i 0) × ((i : ℕ) → fill ≤ i → i < places → get_or result i 0 ≡ get_or at.now 0 0) }
 {
     let mut own = [at[0]; 16];
-    let mut k: usize = 0;
-    while k < fill {
-        own[k] = at[k];
-        k += 1;
-    }
+    own[..fill].copy_from_slice(&at[..fill]);
     own
 }
 
-// The digest x with the hashes of the first `fill` messages, made at once: in as many lanes, or up to three more.
-fn with_hashes(
-    x: [u8; 32],
-    f: Form,
-    far: &[u8],
-    at: &[usize; 16],
-    p: &[u8],
-    fill: usize,
-) -> [u8; 32]
-    requires { (1 ≤ fill) × (fill ≤ places) × Shaped f × (length p.now ≡ 3072) × Inside far.now at.now f.gap places }
-    ensures { result ≡ xors x (hashes p.now f.long far.now at.now f.gap fill) }
-{
-    let lanes = (fill + 3) / 4 * 4;
-    let long = f.long;
-    let gap = f.gap;
-    let own = places_of(at, fill);
-    let s = sha256_many::hash_each(p, long, far, &own, gap, lanes);
-    let mut y = x;
-    let mut k: usize = 0;
-    while k < fill {
-        let d = sha256_many::digest_of(&s, k);
-        let z = octets::xor32(y, d);
-        y = z;
-        k += 1;
+impl Queue {
+    // A queue in which nothing waits, for the digest x.
+    pub fn new(x: [u8; 32]) -> Queue
+        ensures { (f : Form) (far : List ℕ) → Ready result f far × (held result f far ≡ x) }
+    {
+        Queue {
+            sum: Sum { x, fill: 0 },
+            at: [0; 16],
+            places: [0; ROOM],
+        }
     }
-    y
-}
 
-// The sum with the hash of one more message: a head, and the `size` bytes of `far` from `a` on. `pad` is its padding; `p` has the places, and `at`
-// where in `far` lies what is left out of each.
-pub fn add(
-    s: Sum,
-    f: Form,
-    head: &[u8],
-    far: &[u8],
-    a: usize,
-    size: usize,
-    pad: &[u8],
-    p: &mut [u8],
-    at: &mut [usize; 16],
-) -> Sum
-    requires { Sound s f far.now at.old × Cut f (length head.now) size × (a + size ≤ length far.now) × (pad.now ≡ S.padding (length head.now + size)) × (length p.old ≡ 3072) }
-    ensures { Sound result f far.now at.new × (flushed result f far.now at.new p.new ≡ xors (flushed s f far.now at.old p.old) (S.sha256 (said head.now a size far.now))) }
-{
-    let x = s.x;
-    let fill = s.fill;
-    let from = fill * f.long;
-    let to = from + f.long;
-    lay(&mut p[from..to], head, far, a, size, f, pad);
-    at[fill] = a + f.cut;
-    if fill + 1 < PLACES {
-        return Sum { x, fill: fill + 1 };
+    // Starts over with the digest x: what waits is dropped.
+    pub fn restart(&mut self, x: [u8; 32])
+        ensures { (f : Form) (far : List ℕ) → Ready self.new f far × (held self.new f far ≡ x) }
+    {
+        self.sum = Sum { x, fill: 0 };
+        self.at = [0; 16];
     }
-    let y = with_hashes(x, f, far, at, p, PLACES);
-    Sum { x: y, fill: 0 }
-}
 
-// The sum with a hash that was made elsewhere.
-pub fn with_hash(s: Sum, h: [u8; 32]) -> Sum
-    ensures { (f : Form) (far at p : List ℕ) → (Sound s f far at → Sound result f far at) × (flushed result f far at p ≡ xors (flushed s f far at p) h) }
-{
-    let x = s.x;
-    let y = octets::xor32(x, h);
-    Sum { x: y, fill: s.fill }
-}
-
-// The digest with the messages that wait.
-pub fn settled(s: Sum, f: Form, far: &[u8], at: &[usize; 16], p: &[u8]) -> [u8; 32]
-    requires { Sound s f far.now at.now × Shaped f × (length p.now ≡ 3072) }
-    ensures { result ≡ flushed s f far.now at.now p.now }
-{
-    let x = s.x;
-    let fill = s.fill;
-    if fill == 0 {
-        return x;
+    // The digest with the hashes of the first `fill` messages, made at once: in as many lanes, or up to three more.
+    fn with_hashes(&self, f: Form, far: &[u8], fill: usize) -> [u8; 32]
+        requires { (1 ≤ fill) × (fill ≤ places) × Shaped f × Inside far.now self.now.at f.gap places }
+        ensures { result ≡ xors self.now.sum.x (hashes self.now.places f.long far.now self.now.at f.gap fill) }
+    {
+        let lanes = (fill + 3) / 4 * 4;
+        let own = places_of(&self.at, fill);
+        let s = sha256_many::hash_each(&self.places, f.long, far, &own, f.gap, lanes);
+        let mut y = self.sum.x;
+        for k in 0..fill {
+            let d = sha256_many::digest_of(&s, k);
+            let z = octets::xor(y, d);
+            y = z;
+        }
+        y
     }
-    with_hashes(x, f, far, at, p, fill)
+
+    // Adds the hash of one more message: a head, and the bytes of `far` from `a` on that make a block.
+    pub fn add(&mut self, kind: &Kind, head: &[u8], far: &[u8], a: usize)
+        requires { Ready self.old kind.now.form far.now × (length head.now ≡ kind.now.head) × (a + kind.now.size ≤ length far.now) }
+        ensures { Ready self.new kind.now.form far.now × (held self.new kind.now.form far.now ≡ xors (held self.old kind.now.form far.now) (S.sha256 (said head.now a kind.now.size far.now))) }
+    {
+        let f = kind.form;
+        let fill = self.sum.fill;
+        let from = fill * f.long;
+        let to = from + f.long;
+        let len = kind.padding.len;
+        lay(
+            &mut self.places[from..to],
+            head,
+            far,
+            a,
+            kind.size,
+            f,
+            &kind.padding.bytes[..len],
+        );
+        self.at[fill] = a + f.cut;
+        if fill + 1 < PLACES {
+            self.sum.fill = fill + 1;
+            return;
+        }
+        let y = self.with_hashes(f, far, PLACES);
+        self.sum = Sum { x: y, fill: 0 };
+    }
+
+    // Adds a hash that was made elsewhere.
+    pub fn add_hash(&mut self, h: [u8; 32])
+        ensures { (f : Form) (far : List ℕ) → (Ready self.old f far → Ready self.new f far) × (held self.new f far ≡ xors (held self.old f far) h) }
+    {
+        self.sum.x = octets::xor(self.sum.x, h);
+    }
+
+    // The digest with the messages that wait.
+    pub fn settled(&self, kind: &Kind, far: &[u8]) -> [u8; 32]
+        requires { Ready self.now kind.now.form far.now }
+        ensures { result ≡ held self.now kind.now.form far.now }
+    {
+        let fill = self.sum.fill;
+        if fill == 0 {
+            return self.sum.x;
+        }
+        self.with_hashes(kind.form, far, fill)
+    }
 }

@@ -3,24 +3,22 @@
 --   Lent, judge-held                                   what one that is not has
 --   judge-kept, judge-done                             what judge answers and leaves
 --   cause-kept, cause-done                             what cause answers
---   record-head, record-number                         what the record in a reply begins with, and a number in it
 --   not-held, not_equal, all-equal                     the cause that the sealed bytes give
 --   cause-of                                           the cause of a reply from its tests
-use Prim.Native.Nat.{ℕ, ◌+◌, ◌*◌}
-use native.Mathlib.Omega.{arith}
+use Prim.Native.Nat.{ℕ, ◌*◌}
 use mathlib.Core.Path.{◌≡◌, sym, ap, ◌∙◌}
 use mathlib.Core.Bool.{Bool, true, false, cond, ◌&&◌}
 use mathlib.Core.List.{List, [], ◌∷◌}
 use borrow.Author.Tests.{eq-eqb, eqb-true}
-use lib.ListN.{length, take, drop, length-drop}
-use lib.Seq.{take_all, drop-drop}
+use lib.ListN.{length, drop}
 use lib.Dec.{eqb, ltb}
+use Rattle.std.proofs.Math.Option as M
 use Rattle.octets.specs.Octets.{of_be, part, same}
 use Rattle.scheme.specs.Checks.{first, if_zero}
 use Rattle.scheme.specs.Records as R
 use Rattle.scheme.specs.Records.{head_fits, read_card, card_bytes}
 use Rattle.scheme.specs.Tokens.{key_k}
-use Rattle.scheme.specs.Table.{there, value, body_in}
+use Rattle.scheme.specs.Table.{body_in}
 use Rattle.scheme.specs.Judging as J
 use Rattle.scheme.specs.Calls.{turned_card, judge_fault, judge_code, judge_card, cause_code}
 use Rattle.standard.specs.Standard.{standard}
@@ -91,41 +89,20 @@ abbrev names : DC.Card → List ℕ → Bool
 names c reply =
     same (part 3 8 reply) c.id && eqb (of_be (part 11 4 reply)) c.open_token && eqb (of_be (part 11 4 (drop 47 reply))) c.open_token
 
--- the record in a reply of 110 bytes
-module _ (reply : List ℕ) (long : length reply ≡ 110) where
-  pub record-head : part 47 63 reply ≡ drop 47 reply
-  record-head = take_all 63 (drop 47 reply) (omega (arith, length-drop 47 reply))
+-- the cause that the sealed bytes of a reply give, from what they open to
+module _ (key : List ℕ) (ctr i : ℕ) (reply : List ℕ) where
+  pub not-held : M.none ≡ body_in standard key ctr i (drop 47 reply) → J.bad_tag ≡ sealed_cause key ctr i reply
+  unfolding first
+  not-held h = rw (← h)
 
-  pub record-number : (at k : ℕ) → part at k (drop 47 reply) ≡ part (47 + at) k reply
-  record-number at k = ap (take k) (drop-drop at 47 reply)
-
-  pub names-are : (c : DC.Card) (i : ℕ) → i ≡ of_be (part 11 4 reply)
-      → names c reply ≡ (same (part 3 8 reply) c.id && eqb i c.open_token && eqb (of_be (part 11 4 (part 47 63 reply))) c.open_token)
-  names-are c i e = rw (e, record-head)
-
-  -- the cause that its sealed bytes give, from what they open to
-  module _ (key : List ℕ) (ctr i : ℕ) (holds : Bool) (o : holds ≡ there (body_in standard key ctr i (part 47 63 reply))) where
-    tag-is-there : there (body_in standard key ctr i (drop 47 reply)) ≡ holds
-    tag-is-there = ap (λ (x : List ℕ). there (body_in standard key ctr i x)) (sym record-head) ∙ sym o
-
-    pub not-held : holds ≡ false → J.bad_tag ≡ sealed_cause key ctr i reply
+  module _ (x : List ℕ) (h : M.some x ≡ body_in standard key ctr i (drop 47 reply)) where
+    pub not_equal : same x (part 15 32 reply) ≡ false → J.other_digest ≡ sealed_cause key ctr i reply
     unfolding first
-    not-held h = rw (tag-is-there, h)
+    not_equal e = rw (← h, e)
 
-    module _ (held : holds ≡ true) (x : List ℕ) (t : holds ≡ true → x ≡ value (body_in standard key ctr i (part 47 63 reply)))
-        (equal : Bool) (g : equal ≡ same x (part 15 32 reply)) where
-      token-is : same (value (body_in standard key ctr i (drop 47 reply))) (part 15 32 reply) ≡ equal
-      token-is =
-          ap (λ (u : List ℕ). same (value (body_in standard key ctr i u)) (part 15 32 reply)) (sym record-head)
-          ∙ ap (λ (u : List ℕ). same u (part 15 32 reply)) (sym (t held)) ∙ sym g
-
-      pub not_equal : equal ≡ false → J.other_digest ≡ sealed_cause key ctr i reply
-      unfolding first
-      not_equal h = rw (tag-is-there, held, token-is, h)
-
-      pub all-equal : equal ≡ true → J.no_cause ≡ sealed_cause key ctr i reply
-      unfolding first
-      all-equal h = rw (tag-is-there, held, token-is, h)
+    pub all-equal : same x (part 15 32 reply) ≡ true → J.no_cause ≡ sealed_cause key ctr i reply
+    unfolding first
+    all-equal e = rw (← h, e)
 
 -- the cause of a reply from its tests
 module _ (master : List ℕ) (c : DC.Card) (reply : List ℕ) where

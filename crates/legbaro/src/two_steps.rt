@@ -7,6 +7,9 @@ ghost use Rattle.scheme.specs.Asks as S;
 ghost use Rattle.scheme.specs.Roles.{under, may_append, may_batch, may_commit, may_delete, may_drop, may_load, may_update};
 ghost use Rattle.standard.specs.Standard.{standard};
 
+use crate::number;
+use changes::Change;
+
 // Ask for an update. Writes the card, the second table and the totals. Codes 22, 1, 2, 3, 15, 8, 18, 4, 10, 7.
 #[unsafe(no_mangle)]
 pub extern "C" fn legbaro_ask_update(
@@ -26,19 +29,13 @@ pub extern "C" fn legbaro_ask_update(
     ensures second_after { second.new ≡ under role may_update (S.ask_second standard master.now card.old table.now second.old (update block old.now mark.now new.now) totals.old) second.old }
     ensures totals_after { totals.new ≡ under role may_update (S.ask_totals standard master.now card.old table.now second.old (update block old.now mark.now new.now) totals.old) totals.old }
 {
-    access::ask(
-        role,
-        master,
-        card,
-        table,
-        second,
-        changes::Kind::Update,
+    let change = Change::Update {
         block,
         old,
         mark,
         new,
-        totals,
-    )
+    };
+    number(access::ask(role, master, card, table, second, change, totals))
 }
 
 // Ask for a deletion. Writes the card, the second table and the totals. Codes 22, 1, 2, 3, 15, 8, 18, 4, 10, 7.
@@ -59,19 +56,8 @@ pub extern "C" fn legbaro_ask_delete(
     ensures second_after { second.new ≡ under role may_delete (S.ask_second standard master.now card.old table.now second.old (delete block old.now mark.now) totals.old) second.old }
     ensures totals_after { totals.new ≡ under role may_delete (S.ask_totals standard master.now card.old table.now second.old (delete block old.now mark.now) totals.old) totals.old }
 {
-    access::ask(
-        role,
-        master,
-        card,
-        table,
-        second,
-        changes::Kind::Delete,
-        block,
-        old,
-        mark,
-        old,
-        totals,
-    )
+    let change = Change::Delete { block, old, mark };
+    number(access::ask(role, master, card, table, second, change, totals))
 }
 
 // Ask for an append. Writes the card, the second table and the totals. Codes 22, 1, 2, 3, 8, 18, 5, 10, 7.
@@ -90,19 +76,8 @@ pub extern "C" fn legbaro_ask_append(
     ensures second_after { second.new ≡ under role may_append (S.ask_second standard master.now card.old table.now second.old (append new.now) totals.old) second.old }
     ensures totals_after { totals.new ≡ under role may_append (S.ask_totals standard master.now card.old table.now second.old (append new.now) totals.old) totals.old }
 {
-    access::ask(
-        role,
-        master,
-        card,
-        table,
-        second,
-        changes::Kind::Append,
-        0,
-        new,
-        new,
-        new,
-        totals,
-    )
+    let change = Change::Append { new };
+    number(access::ask(role, master, card, table, second, change, totals))
 }
 
 // Ask for a load. Writes the card, the second table and the totals. Codes 22, 1, 2, 3, 8, 18, 12, 5, 10, 7.
@@ -121,19 +96,8 @@ pub extern "C" fn legbaro_ask_load(
     ensures second_after { second.new ≡ under role may_load (S.ask_second standard master.now card.old table.now second.old (load blocks.now) totals.old) second.old }
     ensures totals_after { totals.new ≡ under role may_load (S.ask_totals standard master.now card.old table.now second.old (load blocks.now) totals.old) totals.old }
 {
-    access::ask(
-        role,
-        master,
-        card,
-        table,
-        second,
-        changes::Kind::Load,
-        0,
-        blocks,
-        blocks,
-        blocks,
-        totals,
-    )
+    let change = Change::Load { new: blocks };
+    number(access::ask(role, master, card, table, second, change, totals))
 }
 
 // Ask for a batch. Writes the card, the second table and the totals. Codes 22, 1, 2, 3, 8, 18, 14, 15, 4, 10, 7.
@@ -152,19 +116,8 @@ pub extern "C" fn legbaro_ask_batch(
     ensures second_after { second.new ≡ under role may_batch (S.ask_second standard master.now card.old table.now second.old (batch items.now) totals.old) second.old }
     ensures totals_after { totals.new ≡ under role may_batch (S.ask_totals standard master.now card.old table.now second.old (batch items.now) totals.old) totals.old }
 {
-    access::ask(
-        role,
-        master,
-        card,
-        table,
-        second,
-        changes::Kind::Batch,
-        0,
-        items,
-        items,
-        items,
-        totals,
-    )
+    let change = Change::Batch { items };
+    number(access::ask(role, master, card, table, second, change, totals))
 }
 
 // Commit: what was asked for stands. The card takes its counter and its number of blocks, and the second table that the ask wrote is the table from then
@@ -174,7 +127,7 @@ pub extern "C" fn legbaro_commit(role: u64, card: &mut [u8]) -> u64
     ensures value { result ≡ under role may_commit (S.settle_code card.old) 22 }
     ensures card_after { card.new ≡ under role may_commit (S.commit_card card.old) card.old }
 {
-    access::commit(role, card)
+    number(access::commit(role, card))
 }
 
 // Drop: what was asked for is given up, and the table stays the standing one. The counter that the ask took is not taken again. Codes 22, 1, 2, 3, 19.
@@ -183,5 +136,5 @@ pub extern "C" fn legbaro_drop(role: u64, card: &mut [u8]) -> u64
     ensures value { result ≡ under role may_drop (S.settle_code card.old) 22 }
     ensures card_after { card.new ≡ under role may_drop (S.drop_card card.old) card.old }
 {
-    access::drop(role, card)
+    number(access::drop(role, card))
 }

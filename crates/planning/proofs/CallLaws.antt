@@ -2,19 +2,20 @@
 --   sheet-code-is                the code from its three tests
 --   Held, sheet-held             what holds of the numbers where the code is 0
 --   width-most, side-is, side-most, ceiling-is    the machine's 1, shifted by h and squared, and the ceiling by it
---   whole-most                   r × q fits a machine's number
---   least-none, least-some, most-all, most-some   the least and the most by their tests
+--   fields-more, stored, all-stored   one number more, one more that is stored, and all five
 --   sheet-kept, sheet-done       what a refusal leaves, and what an answer writes
+--   whole-most                   r × q fits a machine's number
 use Prim.Native.Nat.{ℕ, ◌+◌, ◌*◌, ◌-◌, ◌/◌, ◌%◌, ◌^◌, ◌≤◌, ◌<◌}
 use native.Mathlib.Omega.{arith}
 use native.Mathlib.Nat.{mul-le-mul, div-le_self, le_trans}
-use mathlib.Core.Path.{◌≡◌, refl, sym, ap, ap₂, ◌∙◌}
-use mathlib.Core.List.{List, ◌++◌}
+use mathlib.Core.Path.{◌≡◌, sym, ap, ap₂, ◌∙◌}
+use mathlib.Core.List.{List, [], ◌∷◌, ◌++◌, append_assoc, append-nil}
 use mathlib.Core.Bool.{Bool, cond, ◌&&◌}
-use borrow.Author.Tests.{eqb-true, leb-true}
+use borrow.Author.Tests.{eqb-true, leb-true, le-leb}
 use lib.Dec.{eqb, leb}
-use lib.ListN.{length}
-use Rattle.octets.specs.Octets.{be}
+use lib.ListN.{length, get_or, take}
+use Rattle.std.proofs.lemmas.List.{take_more, take_all}
+use Rattle.octets.specs.Octets.{be, put}
 use Rattle.permutation.specs.Rounds.{half}
 use Rattle.permutation.proofs.RoundLaws.{square}
 use Rattle.permutation.proofs.WidthLaws.{half_le, half-wide, whole_le}
@@ -23,7 +24,30 @@ use Rattle.scheme.specs.Checks.{first}
 use Rattle.scheme.specs.Records.{shape_fits, token_fits, blocks_fit}
 use Rattle.scheme.proofs.laws.CheckLaws.{first-passed, both, within-true, refusal-kept, answer-written}
 use Rattle.scheme.proofs.laws.LimitLaws.{Shape, shape-limits}
-use Rattle.planning.specs.Sheet.{table_bytes, ceiling, least, most, escape, sheet_fits, sheet_code, sheet_bytes, sheet_out}
+use Rattle.records.proofs.FieldLaws.{Front, number, filled}
+use Rattle.planning.specs.Sheet.{table_bytes, ceiling, least, most, escape, sheet_fits, sheet_code, sheet_bytes, sheet_out, fields}
+
+pub fields-more : (xs : List ℕ) (x : ℕ) → fields (xs ++ (x ∷ [])) ≡ fields xs ++ be 8 x
+fields-more [] x = append-nil (be 8 x)
+fields-more (y ∷ ys) x = ap (λ (zs : List ℕ). be 8 y ++ zs) (fields-more ys x) ∙ sym (append_assoc (be 8 y) (fields ys) (be 8 x))
+
+-- the first k numbers stand over the first 8 k of 40 bytes
+pub stored : (xs : List ℕ) (k : ℕ) {ys s t : List ℕ} → k < 5 → k < length xs → Front 40 (8 * k) (fields (take k xs)) ys s
+    → t ≡ put (8 * k) (be 8 (get_or xs k 0)) s → Front 40 (8 * (k + 1)) (fields (take (k + 1) xs)) ys t
+stored xs k {ys} {s} {t} h l f e =
+    let m : fields (take (k + 1) xs) ≡ fields (take k xs) ++ be 8 (get_or xs k 0) =
+    ap fields (take_more xs k 0 l) ∙ fields-more (take k xs) (get_or xs k 0) in
+    let n : 8 * k + 8 ≡ 8 * (k + 1) = omega arith in
+    let g : Front 40 (8 * k + 8) (fields (take k xs) ++ be 8 (get_or xs k 0)) ys t = number 8 (get_or xs k 0) f (le-leb (8 * k + 8) 40 (omega arith)) e in
+    rw (m, ← n) g
+
+pub all-stored : (xs : List ℕ) (k : ℕ) {ys s : List ℕ} → k ≡ 5 → length xs ≡ 5 → Front 40 (8 * k) (fields (take k xs)) ys s → s ≡ fields xs
+all-stored xs k {ys} {s} e l f =
+    let g : Front 40 40 (fields (take 5 xs)) ys s = rw e at f in
+    filled g ∙ ap fields (take_all 5 xs (omega arith))
+
+fields-five : (a b c d e : ℕ) → fields (a ∷ b ∷ c ∷ d ∷ e ∷ []) ≡ be 8 a ++ be 8 b ++ be 8 c ++ be 8 d ++ be 8 e
+fields-five a b c d e = simp (append_assoc, append-nil)
 
 module _ (B d r t n m : ℕ) (out : List ℕ) where
   pub sheet-code-is : {b₁ b₂ b₃ : Bool} → eqb (length out) 40 ≡ b₁ → sheet_fits B d r t n ≡ b₂ → leb m d ≡ b₃
@@ -59,9 +83,10 @@ module _ (B d r t n m : ℕ) (out : List ℕ) where
   sheet-kept k e h = refusal-kept (sheet_code B d r t n m out) (sheet_bytes d r t n m) out k e h
 
   pub sheet-done : (k : ℕ) → k ≡ sheet_code B d r t n m out → k ≡ 0 → {a b c e : ℕ} → a ≡ ceiling d r → b ≡ least d r n → c ≡ most d r n → e ≡ escape d r m
-      → be 8 (t * 63) ++ be 8 a ++ be 8 b ++ be 8 c ++ be 8 e ≡ sheet_out B d r t n m out
+      → fields (t * 63 ∷ a ∷ b ∷ c ∷ e ∷ []) ≡ sheet_out B d r t n m out
   unfolding sheet_out sheet_bytes table_bytes
-  sheet-done k g h p q s u = rw (p, q, s, u) (answer-written (sheet_code B d r t n m out) (sheet_bytes d r t n m) out k g h)
+  sheet-done k g h p q s u =
+      rw (p, q, s, u) (fields-five (t * 63) (ceiling d r) (least d r n) (most d r n) (escape d r m) ∙ answer-written (sheet_code B d r t n m out) (sheet_bytes d r t n m) out k g h)
 
 module _ (d h : ℕ) (l : d ≤ 1048576) (e : h ≡ half d) where
   pub width-most : h ≤ 10
@@ -81,20 +106,3 @@ module _ (d h : ℕ) (l : d ≤ 1048576) (e : h ≡ half d) where
 
 pub whole-most : (d r n : ℕ) → r ≤ 512 → n ≤ 16777216 → r * (n / d) ≤ 8589934592
 whole-most d r n h g = mul-le-mul {n₂ = 512} {m₂ = 16777216} h (le_trans (div-le_self n d) g)
-
-module _ (d r n : ℕ) where
-  pub least-none : r ≤ d - n % d → r * (n / d) ≡ least d r n
-  unfolding least
-  least-none h = omega arith
-
-  pub least-some : r * (n / d) + (r - (d - n % d)) ≡ least d r n
-  unfolding least
-  least-some = refl
-
-  pub most-all : r ≤ n % d → r * (n / d) + r ≡ most d r n
-  unfolding most
-  most-all h = omega arith
-
-  pub most-some : n % d < r → r * (n / d) + n % d ≡ most d r n
-  unfolding most
-  most-some h = omega arith

@@ -1,4 +1,5 @@
 -- The chance of escape. Assumes nothing.
+--   ceil-up                        a quotient rounded up, as std has it
 --   up_above, up-below, up-most    a quotient rounded up: at least the exact one, less than one above it, at most any number that is no less
 --   falling-pos, falling-none      the denominator of the exact chance is not 0, and the numerator is 0 once a factor is
 --   figure-most, product-most      a figure is at most 2^32, and the product that is divided next fits a machine's number
@@ -7,7 +8,7 @@
 --   escape-none, escape-some, figure-more   the chance by the test of r, and one factor more, as the code has them
 --   figure-above, figure-next, figure-below   the figure after k factors: at least the exact value, and each factor adds less than one unit
 --   escape-above, escape-below     the chance is never under the exact value and less than r units above it
-use Prim.Native.Nat.{ℕ, zero, suc, ◌+◌, ◌*◌, ◌-◌, ◌^◌, ◌≤◌, ◌<◌}
+use Prim.Native.Nat.{ℕ, zero, suc, ◌+◌, ◌*◌, ◌-◌, ◌/◌, ◌%◌, ◌^◌, ◌≤◌, ◌<◌}
 use native.Mathlib.Omega.{arith}
 use native.Mathlib.Numerals.{add-one}
 use native.Mathlib.Nat.{div-add-mod', mod-lt, div-lt_iff_lt-mul, mul-le-mul, mul-le-mul_left, mul-le-mul_right, mul-lt-mul_of_pos_right, mul-pos}
@@ -17,8 +18,27 @@ use mathlib.Core.Bool.{Bool, true, false, cond}
 use native.Mathlib.Decide.{dec_lt}
 use borrow.Author.Tests.{leb-false, le-leb, lt-leb}
 use lib.Dec.{leb}
+use Rattle.std.specs.Int.{div_ceil}
+use Rattle.std.proofs.lemmas.Nat.{div-mul-add}
 use Rattle.planning.specs.Sheet.{up, figure, escape}
 use Rattle.planning.specs.Exact.{falling}
+
+-- x is x / b times b and the rest: no more than b - 1 are added to a rest of 0, and b or more to another
+pub ceil-up : (x b : ℕ) → 1 ≤ b → div_ceil x b ≡ up x b
+unfolding up
+ceil-up x b h = go (dec_lt 0 (x % b))
+  where
+    go : Dec (0 < x % b) → div_ceil x b ≡ (x + (b - 1)) / b
+    go (yes p) =
+        let e : x + (b - 1) ≡ suc (x / b) * b + (x % b - 1) = omega (arith, suc-mul (x / b) b, div-add-mod' x b) in
+        let l : x % b - 1 < b = omega (arith, mod-lt x h) in
+        let m : div_ceil x b ≡ suc (x / b) = omega arith in
+        m ∙ sym (div-mul-add (suc (x / b)) b (x % b - 1) l) ∙ ap (λ (y : ℕ). y / b) (sym e)
+    go (no p) =
+        let e : x + (b - 1) ≡ x / b * b + (b - 1) = omega (arith, div-add-mod' x b) in
+        let l : b - 1 < b = omega arith in
+        let m : div_ceil x b ≡ x / b = omega arith in
+        m ∙ sym (div-mul-add (x / b) b (b - 1) l) ∙ ap (λ (y : ℕ). y / b) (sym e)
 
 module _ (x b : ℕ) (h : 1 ≤ b) where
   pub up_above : x ≤ up x b * b
@@ -90,9 +110,9 @@ pub escape-some : (d r m : ℕ) → r ≤ d - m → figure d m r ≡ escape d r 
 unfolding escape
 escape-some d r m h = rw (le-leb r (d - m) h)
 
-pub figure-more : (d m k : ℕ) (x y : ℕ) → x ≡ figure d m k → y ≡ up (x * (d - m - k)) (d - k) → y ≡ figure d m (k + 1)
+pub figure-more : (d m k : ℕ) (x y : ℕ) → k < d → x ≡ figure d m k → y ≡ div_ceil (x * (d - m - k)) (d - k) → y ≡ figure d m (k + 1)
 unfolding figure
-figure-more d m k x y p q = q ∙ rw (p, add-one)
+figure-more d m k x y h p q = q ∙ ceil-up (x * (d - m - k)) (d - k) (omega arith) ∙ rw (p, add-one)
 
 -- after k factors: at least the exact value
 figure-above : (d m k : ℕ) → k ≤ d → falling (d - m) k * 2 ^ 32 ≤ figure d m k * falling d k

@@ -8,6 +8,7 @@
 --   escape d r m                 the chance, in units of 2^-32, that r different rows miss m damaged ones
 --   sheet_fits, sheet_code         the limits, and the number that the call returns
 --   sheet_bytes, sheet_out         the five numbers, and what the call leaves in its buffer
+--   fields xs                      numbers one behind the other, 8 bytes each
 use Rattle.std.specs.Prelude.{ℕ, zero, suc, ◌+◌, ◌*◌, ◌-◌, ◌/◌, ◌%◌, ◌^◌, min, List, [], ◌∷◌, ◌++◌, Bool, cond, ◌&&◌, eqb, leb, length}
 use Rattle.octets.specs.Octets.{be}
 use Rattle.counts.specs.Codes.{wrong_length, out_of_limits, too_many_damaged}
@@ -58,3 +59,8 @@ sheet_bytes d r t n m = be 8 (table_bytes t) ++ be 8 (ceiling d r) ++ be 8 (leas
 
 unfoldable pub sheet_out : ℕ → ℕ → ℕ → ℕ → ℕ → ℕ → List ℕ → List ℕ
 sheet_out B d r t n m out = if_zero (sheet_code B d r t n m out) (sheet_bytes d r t n m) out
+
+-- numbers one behind the other, 8 bytes each
+abbrev pub fields : List ℕ → List ℕ
+fields [] = []
+fields (x ∷ xs) = be 8 x ++ fields xs

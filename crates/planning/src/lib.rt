@@ -5,179 +5,171 @@
 
 #![tactic(auto)]
 
-ghost use Rattle.std.specs.Prelude.{◌≡◌, ◌&&◌, ◌≤◌, min, ◌<◌, ◌^◌, ◌++◌, length};
+ghost use Rattle.std.specs.Prelude.{◌≡◌, ◌&&◌, ◌≤◌, min, length, IfOk};
 ghost use Rattle.scheme.specs.Calls as C;
 ghost use Rattle.scheme.specs.Checks.{within};
 ghost use Rattle.octets.specs.Octets.{be};
 ghost use Rattle.counts.specs.Sizes.{sheet_size};
-ghost use Rattle.counts.specs.Limits.{most_rows, most_positions, most_blocks};
+ghost use Rattle.counts.specs.Limits.{most_rows, most_positions, most_tokens, most_blocks};
+ghost use Rattle.counts.specs.Refused.{code_in, code_of, given_in};
 ghost use Rattle.planning.specs.Sheet as S;
 
-use counts::sizes;
+use counts::refusal::Refusal;
+use counts::{limits, sizes};
+
+// The numbers of a file to plan: B, d, r, t and n, and of its d rows the m that are damaged.
+#[derive(Clone, Copy)]
+pub struct Numbers {
+    pub block_bytes: u64,
+    pub rows: u64,
+    pub positions: u64,
+    pub tokens: u64,
+    pub blocks: u64,
+    pub damaged: u64,
+}
+
+// Numbers within their limits, which a sheet is for.
+#[derive(Clone, Copy)]
+struct Planned {
+    rows: u64,
+    positions: u64,
+    tokens: u64,
+    blocks: u64,
+    damaged: u64,
+    ghost some_row: { 1 ≤ rows },
+    ghost few_rows: { rows ≤ most_rows },
+    ghost few_positions: { positions ≤ most_positions },
+    ghost positions_in_rows: { positions ≤ rows },
+    ghost few_tokens: { tokens ≤ most_tokens },
+    ghost few_blocks: { blocks ≤ most_blocks },
+    ghost damaged_in_rows: { damaged ≤ rows },
+}
 
 // Whether the numbers that are given lie within their limits.
 fn asked_fits(positions: u64, planned: u64, present: u64) -> bool
     ensures { result ≡ (within 1 most_rows planned && within 1 planned present && within 1 (min present most_positions) positions) }
 {
-    let rows = (1 <= planned) & (planned <= counts::limits::MOST_ROWS);
-    let blocks = (1 <= present) & (present <= planned);
-    let most = records::lesser(present, counts::limits::MOST_POSITIONS);
-    let few = (1 <= positions) & (positions <= most);
+    let rows = records::within(1, limits::MOST_ROWS, planned);
+    let blocks = records::within(1, planned, present);
+    let few = records::within(1, present.min(limits::MOST_POSITIONS), positions);
     rows & blocks & few
 }
 
-// How many positions of planned rows draw the share that `positions` draw of the blocks present, rounded up.
-fn positions_for(positions: u64, planned: u64, present: u64) -> u64
-    requires { (positions ≤ most_positions) × (planned ≤ most_rows) × (1 ≤ present) × (present ≤ most_rows) }
-    ensures { result ≡ C.positions_for positions planned present }
+// Positions: how many positions of planned rows draw the share that `positions` draw of the blocks present, rounded up. OutOfLimits for numbers outside
+// their limits, TooManyPositions for more than 512 positions.
+pub fn positions(positions: u64, planned: u64, present: u64) -> Result<u64, Refusal>
+    ensures value { given_in result ≡ C.positions_code positions planned present }
+    ensures few { IfOk result (λ n. n ≤ most_positions) }
 {
-    (positions * planned + present - 1) / present
+    if !asked_fits(positions, planned, present) {
+        return Err(Refusal::OutOfLimits);
+    }
+    let given = (positions * planned).div_ceil(present);
+    if limits::MOST_POSITIONS < given {
+        return Err(Refusal::TooManyPositions);
+    }
+    Ok(given)
 }
 
-// Positions: code 0 and the number beside it, 256 times; 3 for numbers outside their limits, 13 for more than 512 positions.
-pub fn positions(positions: u64, planned: u64, present: u64) -> u64
-    ensures { result ≡ C.positions_code positions planned present }
-{
-    let fits = asked_fits(positions, planned, present);
-    if !fits {
-        return counts::codes::OUT_OF_LIMITS;
+impl Numbers {
+    // Whether B, d, r, t and n are within their limits.
+    #[tactic(auto, unfolding(crate::specs::Sheet::sheet_fits))]
+    fn fit(self) -> bool
+        ensures { result ≡ S.sheet_fits self.block_bytes self.rows self.positions self.tokens self.blocks }
+    {
+        records::shape_fits(self.block_bytes, self.rows, self.positions)
+            & records::token_fits(self.tokens)
+            & records::blocks_fit(self.blocks)
     }
-    let given = positions_for(positions, planned, present);
-    if counts::limits::MOST_POSITIONS < given {
-        return counts::codes::TOO_MANY_POSITIONS;
+
+    // The numbers where a sheet of them fits a buffer: not where the buffer has another length, then where a number is outside its limits, then where more
+    // rows are damaged than there are.
+    fn planned(self, out: &[u8]) -> Result<Planned, Refusal>
+        ensures code { code_of result ≡ S.sheet_code self.block_bytes self.rows self.positions self.tokens self.blocks self.damaged out.now }
+        ensures kept { IfOk result (λ p. (p.rows ≡ self.rows) × (p.positions ≡ self.positions) × (p.tokens ≡ self.tokens) × (p.blocks ≡ self.blocks) × (p.damaged ≡ self.damaged)) }
+    {
+        if out.len() != sizes::SHEET {
+            return Err(Refusal::WrongLength);
+        }
+        if !self.fit() {
+            return Err(Refusal::OutOfLimits);
+        }
+        if self.rows < self.damaged {
+            return Err(Refusal::TooManyDamaged);
+        }
+        Ok(Planned {
+            rows: self.rows,
+            positions: self.positions,
+            tokens: self.tokens,
+            blocks: self.blocks,
+            damaged: self.damaged,
+        })
     }
-    256 * given
 }
 
-// Whether B, d, r, t and n are within their limits.
-fn numbers_fit(block_bytes: u64, rows: u64, positions: u64, tokens: u64, blocks: u64) -> bool
-    ensures { result ≡ S.sheet_fits block_bytes rows positions tokens blocks }
-{
-    records::shape_fits(block_bytes, rows, positions)
-        & records::token_fits(tokens)
-        & records::blocks_fit(blocks)
-}
+impl Planned {
+    // The most turns that the positions of one token take together.
+    fn ceiling(self) -> u64
+        ensures { result ≡ S.ceiling self.rows self.positions }
+    {
+        let side = 1u64 << permutation::half_width(self.rows);
+        self.positions + side * side - self.rows
+    }
 
-// The code of a sheet. Writes nothing.
-fn sheet_code(
-    block_bytes: u64,
-    rows: u64,
-    positions: u64,
-    tokens: u64,
-    blocks: u64,
-    damaged: u64,
-    out: &[u8],
-) -> u64
-    ensures { result ≡ S.sheet_code block_bytes rows positions tokens blocks damaged out.now }
-{
-    if out.len() != sizes::SHEET {
-        return counts::codes::WRONG_LENGTH;
+    // The least hashes for a proof of that many different rows.
+    #[tactic(auto, unfolding(crate::specs::Sheet::least))]
+    fn least(self) -> u64
+        ensures { result ≡ S.least self.rows self.positions self.blocks }
+    {
+        let whole = self.positions * (self.blocks / self.rows);
+        let short = self.rows - self.blocks % self.rows;
+        whole + self.positions.saturating_sub(short)
     }
-    let fits = numbers_fit(block_bytes, rows, positions, tokens, blocks);
-    if !fits {
-        return counts::codes::OUT_OF_LIMITS;
-    }
-    if rows < damaged {
-        return counts::codes::TOO_MANY_DAMAGED;
-    }
-    0
-}
 
-// The most turns that so many positions of one token take together.
-fn ceiling(rows: u64, positions: u64) -> u64
-    requires { (1 ≤ rows) × (rows ≤ most_rows) × (positions ≤ most_positions) }
-    ensures { result ≡ S.ceiling rows positions }
-{
-    let side = 1u64 << permutation::half_width(rows);
-    positions + side * side - rows
-}
-
-// The least hashes for a proof of so many different rows.
-fn least(rows: u64, positions: u64, blocks: u64) -> u64
-    requires { (1 ≤ rows) × (positions ≤ most_positions) × (blocks ≤ most_blocks) }
-    ensures { result ≡ S.least rows positions blocks }
-{
-    let whole = positions * (blocks / rows);
-    let short = rows - blocks % rows;
-    if positions <= short {
-        return whole;
+    // The most hashes for a proof of that many different rows.
+    #[tactic(auto, unfolding(crate::specs::Sheet::most))]
+    fn most(self) -> u64
+        ensures { result ≡ S.most self.rows self.positions self.blocks }
+    {
+        let whole = self.positions * (self.blocks / self.rows);
+        whole + self.positions.min(self.blocks % self.rows)
     }
-    whole + (positions - short)
-}
 
-// The most hashes for a proof of so many different rows.
-fn most(rows: u64, positions: u64, blocks: u64) -> u64
-    requires { (1 ≤ rows) × (positions ≤ most_positions) × (blocks ≤ most_blocks) }
-    ensures { result ≡ S.most rows positions blocks }
-{
-    let whole = positions * (blocks / rows);
-    let long = blocks % rows;
-    if positions <= long {
-        return whole + positions;
+    // The chance, in units of 2^-32, that so many different rows miss the damaged ones.
+    fn escape(self) -> u64
+        ensures { result ≡ S.escape self.rows self.positions self.damaged }
+    {
+        let sound = self.rows - self.damaged;
+        if sound < self.positions {
+            return 0;
+        }
+        let mut figure: u64 = 1 << 32;
+        for j in 0..self.positions {
+            figure = (figure * (sound - j)).div_ceil(self.rows - j);
+        }
+        figure
     }
-    whole + long
-}
-
-// x / b, rounded up.
-fn up(x: u64, b: u64) -> u64
-    requires { (1 ≤ b) × (b ≤ 1048576) × (x < 2 ^ 63) }
-    ensures { result ≡ S.up x b }
-{
-    (x + (b - 1)) / b
-}
-
-// The chance, in units of 2^-32, that so many different rows miss the damaged ones.
-fn escape(rows: u64, positions: u64, damaged: u64) -> u64
-    requires { (rows ≤ most_rows) × (positions ≤ rows) × (damaged ≤ rows) }
-    ensures { result ≡ S.escape rows positions damaged }
-{
-    let sound = rows - damaged;
-    if sound < positions {
-        return 0;
-    }
-    let mut figure: u64 = 4294967296;
-    let mut j: u64 = 0;
-    while j < positions {
-        figure = up(figure * (sound - j), rows - j);
-        j += 1;
-    }
-    figure
 }
 
 // Writes five numbers over 40 bytes.
-fn put_five(out: &mut [u8], a: u64, b: u64, c: u64, d: u64, e: u64)
+fn put_five(out: &mut [u8], five: [u64; 5])
     requires { length out.old ≡ sheet_size }
-    ensures { out.new ≡ be 8 a ++ be 8 b ++ be 8 c ++ be 8 d ++ be 8 e }
+    ensures { out.new ≡ S.fields five }
 {
-    octets::put_be8(out, 0, a);
-    octets::put_be8(out, 8, b);
-    octets::put_be8(out, 16, c);
-    octets::put_be8(out, 24, d);
-    octets::put_be8(out, 32, e);
+    for (i, x) in five.iter().enumerate() {
+        octets::put_be::<8>(out, 8 * i, *x);
+    }
 }
 
 // Sheet: writes five numbers over 40 bytes: the table's bytes, a ceiling on the turns of one token, the least and the most hashes of a proof, and the
-// chance of escape. A refusal leaves the buffer. Codes 1, 3, 21.
-pub fn sheet(
-    block_bytes: u64,
-    rows: u64,
-    positions: u64,
-    tokens: u64,
-    blocks: u64,
-    damaged: u64,
-    out: &mut [u8],
-) -> u64
-    ensures value { result ≡ S.sheet_code block_bytes rows positions tokens blocks damaged out.old }
-    ensures out_after { out.new ≡ S.sheet_out block_bytes rows positions tokens blocks damaged out.old }
+// chance of escape. WrongLength, OutOfLimits, TooManyDamaged. A refusal leaves the buffer.
+pub fn sheet(numbers: Numbers, out: &mut [u8]) -> Result<(), Refusal>
+    ensures value { code_in result ≡ S.sheet_code numbers.block_bytes numbers.rows numbers.positions numbers.tokens numbers.blocks numbers.damaged out.old }
+    ensures out_after { out.new ≡ S.sheet_out numbers.block_bytes numbers.rows numbers.positions numbers.tokens numbers.blocks numbers.damaged out.old }
 {
-    let code = sheet_code(block_bytes, rows, positions, tokens, blocks, damaged, out);
-    if code != 0 {
-        return code;
-    }
-    let turns = ceiling(rows, positions);
-    let low = least(rows, positions, blocks);
-    let high = most(rows, positions, blocks);
-    let chance = escape(rows, positions, damaged);
-    put_five(out, tokens * sizes::RECORD_BYTES, turns, low, high, chance);
-    0
+    let file = numbers.planned(out)?;
+    let table = file.tokens * sizes::RECORD_BYTES;
+    let (low, high) = (file.least(), file.most());
+    put_five(out, [table, file.ceiling(), low, high, file.escape()]);
+    Ok(())
 }

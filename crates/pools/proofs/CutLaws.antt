@@ -1,25 +1,25 @@
--- Cards that lie end to end, cut by their length fields, in loops from the front: what is left. Assumes nothing.
---   fault-short .. fault-next, fault-end        the code of what is left from an offset on, from its tests
+-- Cards that lie end to end, cut by their length fields. Assumes nothing.
+--   fault-end, fault-short .. fault-next        the code of cards from the tests of the first
+--   First, first-card                           what the first card has where the code is 0
+--   every-none, every-first                     a test of every card, of those from the first on
+--   all, opened, every-read                     a test of their numbers; all-more, all-done: one more answer, and the answers of all
+--   read-none, read-first, count-read, count-least       their numbers, and how many there are
 --   card, Here, here                            the card at an offset, and what it has where the cards from there on have code 0
---   lent-long, two-more                         the bytes that are lent of it, and those of its length field
---   cut-end, count_next, count-done             no cards, and how many there are
---   every-failed .. every-all, every-done       a test of every card, of those from an offset on
---   read_none, read_more                        the numbers of the cards from an offset on
---   absent-found .. absent-done, distinct-failed .. distinct-done    of their ids
+--   lent-long, two-more, cut-end, every_here    the bytes that are lent of it, those of its length field, no cards, and a test of those from there on
 use Prim.Native.Nat.{ℕ, zero, suc, ◌+◌, ◌-◌, ◌≤◌, ◌<◌}
 use native.Mathlib.Omega.{arith}
 use mathlib.Core.Path.{◌≡◌, refl, sym, ap, ap₂, ◌∙◌}
 use mathlib.Core.List.{List, [], ◌∷◌}
 use mathlib.Core.Bool.{Bool, true, false, cond, ◌&&◌, ◌||◌, and_assoc}
 use borrow.Author.Tests.{eq-eqb, ne_eqb, eqb-true, eqb-false, le-leb, lt-leb, leb-true}
-use lib.Dec.{eqb, leb}
+use lib.Dec.{eqb, leb, ltb}
 use lib.ListN.{length, take, drop, length-drop}
 use lib.Seq.{drop-drop}
-use Rattle.octets.specs.Octets.{of_be, part, same}
-use Rattle.octets.proofs.PartLaws.{length_part, part-part}
+use Rattle.octets.specs.Octets.{of_be, part}
+use Rattle.octets.proofs.PartLaws.{length_part}
 use Rattle.scheme.specs.Checks.{first}
-use Rattle.scheme.specs.Records.{read_card}
-use Rattle.scheme.specs.Pools.{cut_code, cut_cards, cut_fault, cut, read_all, every, absent, distinct}
+use Rattle.scheme.specs.Records.{Card, read_card}
+use Rattle.scheme.specs.Pools.{cut_code, cut_cards, cut_fault, cut, read_all, every}
 use Rattle.scheme.proofs.laws.CheckLaws.{both}
 
 -- the length field of the first card, and the bytes of the card
@@ -122,35 +122,95 @@ shifted f k = go (eqb f k) refl
     go true e = eq-eqb (2 + f) (2 + k) (omega (arith, eqb-true f k e)) ∙ sym e
     go false e = ne_eqb (2 + f) (2 + k) (λ z. eqb-false f k e (omega arith)) ∙ sym e
 
--- the code of what is left from an offset on
-module _ (cards : List ℕ) (at : ℕ) where
-  pub fault-end : length cards ≤ at → 0 ≡ cut_fault (drop at cards)
-  fault-end h = code-end (drop at cards) (omega (arith, length-drop at cards))
+-- the code of cards from the tests of the first, of n bytes
+pub fault-end : (xs : List ℕ) → length xs ≡ 0 → 0 ≡ cut_fault xs
+fault-end = code-end
 
-  module _ (h : at < length cards) where
-    left : length (drop at cards) ≡ length cards - at
-    left = length-drop at cards
+module _ (xs : List ℕ) (some : 1 ≤ length xs) where
+  pub fault-short : length xs < 2 → 1 ≡ cut_fault xs
+  fault-short = code-short xs some
 
-    some : 1 ≤ length (drop at cards)
-    some = omega (arith, left)
+  module _ (n : ℕ) (e : n ≡ 2 + of_be (part 0 2 xs)) (two : 2 ≤ length xs) where
+    known : (eqb (field xs) 41 || eqb (field xs) 61) ≡ (eqb n 43 || eqb n 63)
+    known = sym (ap (λ (m : ℕ). eqb m 43 || eqb m 63) e ∙ ap₂ (λ (x y : Bool). x || y) (shifted (field xs) 41) (shifted (field xs) 61))
 
-    pub fault-short : length cards - at < 2 → 1 ≡ cut_fault (drop at cards)
-    fault-short l = code-short (drop at cards) some (omega (arith, left))
+    pub fault-field : (eqb n 43 || eqb n 63) ≡ false → 2 ≡ cut_fault xs
+    fault-field f = code-field xs some two (known ∙ f)
 
-    module _ (n : ℕ) (e : n ≡ 2 + of_be (part at 2 cards)) (two : 2 ≤ length cards - at) where
-      known : (eqb (field (drop at cards)) 41 || eqb (field (drop at cards)) 61) ≡ (eqb n 43 || eqb n 63)
-      known = sym (ap (λ (m : ℕ). eqb m 43 || eqb m 63) e ∙ ap₂ (λ (x y : Bool). x || y) (shifted (field (drop at cards)) 41) (shifted (field (drop at cards)) 61))
+    pub fault-rest : (eqb n 43 || eqb n 63) ≡ true → length xs < n → 1 ≡ cut_fault xs
+    fault-rest f l = code-rest xs some two (known ∙ f) (omega arith)
 
-      pub fault-field : (eqb n 43 || eqb n 63) ≡ false → 2 ≡ cut_fault (drop at cards)
-      fault-field f = code-field (drop at cards) some (omega (arith, left)) (known ∙ f)
+    pub fault-next : (eqb n 43 || eqb n 63) ≡ true → n ≤ length xs → cut_fault xs ≡ cut_fault (drop n xs)
+    fault-next f l = code-next xs some two (known ∙ f) (omega arith) ∙ ap (λ (m : ℕ). cut_fault (drop m xs)) (sym e)
 
-      pub fault-rest : (eqb n 43 || eqb n 63) ≡ true → length cards - at < n → 1 ≡ cut_fault (drop at cards)
-      fault-rest f l = code-rest (drop at cards) some (omega (arith, left)) (known ∙ f) (omega (arith, left))
+-- the first card, of n bytes, where the code is 0
+pub record First (xs : List ℕ) (n : ℕ) : Type 0 where
+  pub least : 43 ≤ n
+  pub room : n ≤ length xs
+  pub later : cut_fault (drop n xs) ≡ 0
+  pub split : cut xs ≡ take n xs ∷ cut (drop n xs)
 
-      pub fault-next : (eqb n 43 || eqb n 63) ≡ true → n ≤ length cards - at → cut_fault (drop at cards) ≡ cut_fault (drop (at + n) cards)
-      fault-next f l =
-          code-next (drop at cards) some (omega (arith, left)) (known ∙ f) (omega (arith, left))
-          ∙ ap cut_fault (drop-drop (long (drop at cards)) at cards ∙ ap (λ (m : ℕ). drop (at + m) cards) (sym e))
+pub first-card : (xs : List ℕ) (n : ℕ) → n ≡ 2 + of_be (part 0 2 xs) → 1 ≤ length xs → cut_fault xs ≡ 0 → First xs n
+first-card xs n e some z =
+    let f = front xs some z in
+    let k = either-of (field xs) f.0 in
+    let r = leb-true (long xs) (length xs) f.1 in
+    record {
+      least = omega arith;
+      room = omega arith;
+      later = ap (λ (m : ℕ). cut_fault (drop m xs)) e ∙ f.2;
+      split = cut-more xs some ∙ ap (λ (m : ℕ). take m xs ∷ cut (drop m xs)) (sym e);
+    }
+
+cards-least : (k : ℕ) (xs : List ℕ) → length (cut_cards k xs) ≤ k
+unfolding cut_cards
+cards-least zero xs = omega arith
+cards-least (suc k) xs = go (eqb (length xs) 0) (cards-least k (drop (long xs) xs))
+  where
+    go : (b : Bool) → length (cut_cards k (drop (long xs) xs)) ≤ k → length (cond b [] (take (long xs) xs ∷ cut_cards k (drop (long xs) xs))) ≤ suc k
+    go true h = omega arith
+    go false h = omega arith
+
+-- there are not more cards than bytes
+pub count-least : (xs : List ℕ) → length (cut xs) ≤ length xs
+unfolding cut
+count-least xs = cards-least (length xs) xs
+
+-- a test of every card, and of its numbers
+pub every-none : (f : List ℕ → Bool) (xs : List ℕ) → length xs ≡ 0 → every f (cut xs) ≡ true
+unfolding every
+every-none f xs h = ap (every f) (cut-none xs h)
+
+pub every-first : (f : List ℕ → Bool) (xs x ys : List ℕ) → cut xs ≡ x ∷ cut ys → every f (cut xs) ≡ (f x && every f (cut ys))
+unfolding every
+every-first f xs x ys e = ap (every f) e
+
+abbrev pub all : (Card → Bool) → List Card → Bool
+all f [] = true
+all f (c ∷ cs) = f c && all f cs
+
+-- whether a token is open
+abbrev pub opened : Card → Bool
+opened c = ltb 0 c.open'
+
+pub every-read : (f : Card → Bool) (xs : List (List ℕ)) → every (λ x. f (read_card x)) xs ≡ all f (read_all xs)
+unfolding every read_all
+every-read f [] = refl
+every-read f (x ∷ xs) = ap (λ (b : Bool). f (read_card x) && b) (every-read f xs)
+
+-- the numbers of the cards
+pub read-none : (xs : List ℕ) → length xs ≡ 0 → read_all (cut xs) ≡ []
+unfolding read_all
+read-none xs h = ap read_all (cut-none xs h)
+
+pub read-first : (xs x ys : List ℕ) → cut xs ≡ x ∷ cut ys → read_all (cut xs) ≡ read_card x ∷ read_all (cut ys)
+unfolding read_all
+read-first xs x ys e = ap read_all e
+
+pub count-read : (xs : List (List ℕ)) → length (read_all xs) ≡ length xs
+unfolding read_all
+count-read [] = refl
+count-read (x ∷ xs) = ap suc (count-read xs)
 
 -- the card of n bytes that is lent from an offset on
 abbrev pub card : List ℕ → ℕ → ℕ → List ℕ
@@ -190,92 +250,20 @@ two-more cards at h z = let k = here cards at (2 + of_be (part at 2 cards)) refl
 pub cut-end : (cards : List ℕ) (at : ℕ) → length cards ≤ at → cut (drop at cards) ≡ []
 cut-end cards at h = cut-none (drop at cards) (omega (arith, length-drop at cards))
 
--- how many there are
-module _ (cards : List ℕ) (at : ℕ) where
-  pub count_next : (n : ℕ) → Here cards at n → length (cut (drop at cards)) ≡ 1 + length (cut (drop (at + n) cards))
-  count_next n h = ap length h.split ∙ omega arith
+pub every_here : (f : List ℕ → Bool) (cards : List ℕ) (at n : ℕ) → Here cards at n → every f (cut (drop at cards)) ≡ true
+    → (f (card cards at n) ≡ true) × (every f (cut (drop (at + n) cards)) ≡ true)
+unfolding every
+every_here f cards at n h e = both (f (card cards at n)) (every f (cut (drop (at + n) cards))) (sym (ap (every f) h.split) ∙ e)
 
-  pub count-done : length cards ≤ at → length (cut (drop at cards)) ≡ 0
-  count-done h = ap length (cut-end cards at h)
+-- one more answer beside those before, and the answers of all
+pub all-more : (f : Card → Bool) (b : Bool) (cs before after : List Card) (c : Card) → all f cs ≡ (b && all f before) → before ≡ c ∷ after
+    → all f cs ≡ ((b && f c) && all f after)
+all-more f b cs before after c w e = w ∙ ap (λ (l : List Card). b && all f l) e ∙ sym (and_assoc b (f c) (all f after))
 
--- a test of every card, in a loop from the front
-module _ (f : List ℕ → Bool) (cards : List ℕ) where
-  pub every-done : (at : ℕ) → length cards ≤ at → every f (cut (drop at cards)) ≡ true
-  unfolding every
-  every-done at h = ap (every f) (cut-end cards at h)
-
-  module _ (at n : ℕ) (h : Here cards at n) where
-    every-step : every f (cut (drop at cards)) ≡ (f (card cards at n) && every f (cut (drop (at + n) cards)))
-    unfolding every
-    every-step = ap (every f) h.split
-
-    pub every-failed : f (card cards at n) ≡ false → every f (cut (drop at cards)) ≡ false
-    every-failed e = every-step ∙ rw e
-
-    pub every-next : f (card cards at n) ≡ true → every f (cut (drop at cards)) ≡ every f (cut (drop (at + n) cards))
-    every-next e = every-step ∙ rw e
-
-    pub every_here : every f (cut (drop at cards)) ≡ true → (f (card cards at n) ≡ true) × (every f (cut (drop (at + n) cards)) ≡ true)
-    every_here e = both (f (card cards at n)) (every f (cut (drop (at + n) cards))) (sym every-step ∙ e)
-
-    -- one more answer beside those before
-    pub every_more : (b t : Bool) → t ≡ f (card cards at n) → every f (cut cards) ≡ (b && every f (cut (drop at cards)))
-        → every f (cut cards) ≡ ((b && t) && every f (cut (drop (at + n) cards)))
-    every_more b t e w =
-        w ∙ ap (λ (x : Bool). b && x) every-step ∙ sym (and_assoc b (f (card cards at n)) (every f (cut (drop (at + n) cards))))
-        ∙ ap (λ (x : Bool). (b && x) && every f (cut (drop (at + n) cards))) (sym e)
-
-  pub every-all : (at : ℕ) (b : Bool) → length cards ≤ at → every f (cut cards) ≡ (b && every f (cut (drop at cards))) → b ≡ every f (cut cards)
-  every-all at b h w = sym (w ∙ ap (λ (x : Bool). b && x) (every-done at h) ∙ alone b)
-    where
-      alone : (b : Bool) → (b && true) ≡ b
-      alone true = refl
-      alone false = refl
-
--- the numbers of the cards
-module _ (cards : List ℕ) (at : ℕ) where
-  pub read_none : length cards ≤ at → read_all (cut (drop at cards)) ≡ []
-  unfolding read_all
-  read_none h = ap read_all (cut-end cards at h)
-
-  pub absent-done : (id : List ℕ) → length cards ≤ at → absent id (read_all (cut (drop at cards))) ≡ true
-  unfolding absent
-  absent-done id h = ap (absent id) (read_none h)
-
-  pub distinct-done : length cards ≤ at → distinct (read_all (cut (drop at cards))) ≡ true
-  unfolding distinct
-  distinct-done h = ap distinct (read_none h)
-
-  module _ (n : ℕ) (h : Here cards at n) where
-    pub read_more : read_all (cut (drop at cards)) ≡ read_card (card cards at n) ∷ read_all (cut (drop (at + n) cards))
-    unfolding read_all
-    read_more = ap read_all h.split
-
-    -- the id lies three bytes behind where a card begins
-    id-is : (k : ℕ) → k ≡ 8 → (read_card (card cards at n)).id ≡ part (at + 3) k cards
-    unfolding read_card
-    id-is k e = part-part 3 8 at (at + n - at) cards (omega (arith, h.least)) ∙ ap (λ (j : ℕ). part (at + 3) j cards) (sym e)
-
-    module _ (id : List ℕ) (k : ℕ) (e : k ≡ 8) where
-      absent-step : absent id (read_all (cut (drop at cards))) ≡ cond (same id (part (at + 3) k cards)) false (absent id (read_all (cut (drop (at + n) cards))))
-      unfolding absent
-      absent-step = ap (absent id) read_more ∙ ap (λ (x : List ℕ). cond (same id x) false (absent id (read_all (cut (drop (at + n) cards))))) (id-is k e)
-
-      pub absent-found : same id (part (at + 3) k cards) ≡ true → absent id (read_all (cut (drop at cards))) ≡ false
-      absent-found f = absent-step ∙ rw f
-
-      pub absent-next : same id (part (at + 3) k cards) ≡ false → absent id (read_all (cut (drop at cards))) ≡ absent id (read_all (cut (drop (at + n) cards)))
-      absent-next f = absent-step ∙ rw f
-
-    module _ (id : List ℕ) (e : id ≡ part (at + 3) 8 cards) where
-      distinct-step : distinct (read_all (cut (drop at cards))) ≡ (absent id (read_all (cut (drop (at + n) cards))) && distinct (read_all (cut (drop (at + n) cards))))
-      unfolding distinct
-      distinct-step =
-          ap distinct read_more
-          ∙ ap (λ (x : List ℕ). absent x (read_all (cut (drop (at + n) cards))) && distinct (read_all (cut (drop (at + n) cards)))) (id-is 8 refl ∙ sym e)
-
-      pub distinct-failed : absent id (read_all (cut (drop (at + n) cards))) ≡ false → distinct (read_all (cut (drop at cards))) ≡ false
-      distinct-failed f = distinct-step ∙ rw f
-
-      pub distinct-next : absent id (read_all (cut (drop (at + n) cards))) ≡ true → distinct (read_all (cut (drop at cards))) ≡ distinct (read_all (cut (drop (at + n) cards)))
-      distinct-next f = distinct-step ∙ rw f
+pub all-done : (f : Card → Bool) (xs : List (List ℕ)) (b : Bool) (rest : List Card) → all f (read_all xs) ≡ (b && all f rest) → rest ≡ []
+    → b ≡ every (λ x. f (read_card x)) xs
+all-done f xs b rest w e = sym (every-read f xs ∙ w ∙ ap (λ (l : List Card). b && all f l) e ∙ alone b)
+  where
+    alone : (b : Bool) → (b && true) ≡ b
+    alone true = refl
+    alone false = refl

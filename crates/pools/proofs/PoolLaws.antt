@@ -1,7 +1,7 @@
 -- Laws of pooled judging at the standard primitives: codes from tests, the parts of a reply, and what a verdict leaves. Assumes nothing.
 --   drawn-limits .. drawn-none                         the code of cards whose heads fit, from its tests
 --   refused, other-master, other-head, drawn           the code of a pool; Pooled, pooled: what one that is not turned away has
---   clear-is, part-failed, part-opened, part-token     the part of a reply that speaks of a card; entry-long: its length where it is lent
+--   clear-is, part-failed, part-opened                 the part of a reply that speaks of a card
 --   rest, rest-failed, rest-next, rest-done            the parts that are left, and the xor of the tokens so far
 --   fits-of                                            whether a reply is accepted, from its tests
 --   closed_is, closed-length .. closed-next, closed-done     cards whose draws are closed one after the other
@@ -14,13 +14,16 @@ use mathlib.Core.Bool.{Bool, true, false, cond, ◌&&◌}
 use borrow.Author.Tests.{eq-eqb, eqb-true}
 use lib.Dec.{eqb}
 use lib.ListN.{length, get_or, take, drop, replicate}
-use lib.Seq.{drop-drop, take_all}
+use lib.Seq.{take_all}
+use Rattle.std.specs.Prelude.{Option, Some, None, MatchOption}
+use Rattle.std.proofs.Common.{zero-add}
+use Rattle.std.proofs.Math.Option as M
 use Rattle.octets.specs.Octets.{of_be, part, put, same, xors}
 use Rattle.octets.proofs.PartLaws.{length_part, part-part, put-lent, length-put, take_put, drop-put}
 use Rattle.scheme.specs.Checks.{first, if_zero, within}
 use Rattle.scheme.specs.Records.{Card, read_card, card_bytes, head_fits, card_head}
 use Rattle.scheme.specs.Tokens.{key_k}
-use Rattle.scheme.specs.Table.{there, value, body_in}
+use Rattle.scheme.specs.Table.{value, body_in}
 use Rattle.scheme.specs.Judging.{names_fit, counter_fits, opened_body}
 use Rattle.scheme.specs.Calls.{turned_card, closed}
 use Rattle.scheme.specs.Pools.{cut_fault, cut, read_all, closed_all, every, distinct, in_limits, pool_checks, pool_fault, passes, all_pass, pool_sum, pool_fits, pool_verdict, pool_code, pool_cards}
@@ -30,8 +33,9 @@ use Rattle.standard.specs.Standard.{standard}
 use Rattle.cards.specs.Fields.{card_of}
 use Rattle.cards.specs.declared.Card as DC
 use Rattle.cards.proofs.FaultLaws.{head-long, readable}
+use Rattle.judging.specs.Causes.{body_of}
 use Rattle.pools.specs.Drawn.{drawn_checks}
-use Rattle.pools.proofs.CutLaws.{card, Here, lent-long, read_more, read_none, cut-end}
+use Rattle.pools.proofs.CutLaws.{card, Here, lent-long, cut-end, count-read}
 
 -- the code of cards whose heads fit
 module _ (fit some differ drawn : Bool) where
@@ -112,82 +116,61 @@ module _ (master : List ℕ) (c : DC.Card) (entry : List ℕ) where
 
   pub clear-is : (head names : Bool) (i ctr : ℕ) → head ≡ head_fits 61 c.version rec → i ≡ of_be (part 8 4 entry)
       → names ≡ (same (part 0 8 entry) c.id && eqb i c.open_token && eqb (of_be (part 11 4 rec)) c.open_token)
-      → ctr ≡ of_be (part 15 8 entry) → (head && names && eqb ctr c.counter) ≡ clear
+      → ctr ≡ of_be (part 3 8 rec) → (head && names && eqb ctr c.counter) ≡ clear
   unfolding card_of
   clear-is head names i ctr h e g k =
-      let counter : ctr ≡ of_be (part 3 8 rec) = k ∙ ap of_be (sym (part-part 3 8 12 63 entry (omega arith))) in
       let named : names ≡ names_fit (card_of c) (part 0 8 entry) (of_be (part 8 4 entry)) rec = g ∙ ap (λ (n : ℕ). same (part 0 8 entry) c.id && eqb n c.open_token && eqb (of_be (part 11 4 rec)) c.open_token) e in
-      ap₂ (λ (x : Bool) (n : ℕ). x && eqb n c.counter) (ap₂ (λ (x y : Bool). x && y) h named) counter
+      ap₂ (λ (x : Bool) (n : ℕ). x && eqb n c.counter) (ap₂ (λ (x y : Bool). x && y) h named) k
 
-  pub part-failed : (b : Bool) → b ≡ clear → b ≡ false → false ≡ passes standard master (card_of c) entry
+  pub part-failed : (b : Bool) → b ≡ clear → b ≡ false → passes standard master (card_of c) entry ≡ false
   unfolding passes card_of
   part-failed b e f = let g : clear ≡ false = sym e ∙ f in rw g
 
-  module _ (b : Bool) (e : b ≡ clear) (f : b ≡ true) (k : List ℕ) (key : k ≡ key_k standard master c.id) where
-    pub part-opened : (holds : Bool) → holds ≡ there (body_in standard k c.counter c.open_token rec) → holds ≡ passes standard master (card_of c) entry
-    unfolding passes card_of
-    part-opened holds h =
-        let g : clear ≡ true = sym e ∙ f in
-        h ∙ ap (λ (x : List ℕ). there (body_in standard x c.counter c.open_token rec)) key ∙ rw g
-
-    pub part-token : (x : List ℕ) → x ≡ value (body_in standard k c.counter c.open_token rec) → x ≡ value (opened_body standard master (card_of c) rec)
-    unfolding card_of
-    part-token x h = h ∙ ap (λ (y : List ℕ). value (body_in standard y c.counter c.open_token rec)) key
-
-pub entry-long : (reply : List ℕ) (from : ℕ) → from + 75 ≤ length reply → length (part from (from + 75 - from) reply) ≡ 75
-entry-long reply from h = let k : from + 75 - from ≡ 75 = omega arith in length_part from (from + 75 - from) reply (omega arith) ∙ k
+  pub part-opened : (b : Bool) → b ≡ clear → b ≡ true → (k : List ℕ) → k ≡ key_k standard master c.id
+      → (body : Option (List ℕ)) → body_of body ≡ body_in standard k c.counter c.open_token rec
+      → MatchOption body (passes standard master (card_of c) entry ≡ false)
+      (λ (x : List ℕ). (passes standard master (card_of c) entry ≡ true) × (x ≡ value (opened_body standard master (card_of c) rec)))
+  unfolding passes card_of
+  part-opened b e f k key None h =
+      let g : clear ≡ true = sym e ∙ f in
+      let o : body_in standard (key_k standard master c.id) c.counter c.open_token rec ≡ M.none = rw (← key) (sym h) in
+      rw (g, o)
+  part-opened b e f k key (Some x) h =
+      let g : clear ≡ true = sym e ∙ f in
+      let o : body_in standard (key_k standard master c.id) c.counter c.open_token rec ≡ M.some x = rw (← key) (sym h) in
+      (rw (g, o), rw o)
 
 -- the parts that are left of a reply, and the xor of the tokens so far against the one sent
 abbrev pub rest : List ℕ → List ℕ → List Card → List ℕ → List ℕ → Bool
 rest master sum cs parts sent = all_pass standard master cs parts && same (pool_sum standard master sum cs parts) sent
 
-module _ (master cards reply sent : List ℕ) (at from : ℕ) (sum : List ℕ) where
-  pub rest-done : length cards ≤ at → rest master sum (read_all (cut (drop at cards))) (drop from reply) sent ≡ same sum sent
+pub rest-done : (master sum parts sent : List ℕ) {cs : List Card} → cs ≡ [] → rest master sum cs parts sent ≡ same sum sent
+unfolding all_pass pool_sum
+rest-done master sum parts sent e = rw e
+
+-- one part more: 75 bytes are as good as all that are left
+module _ (master sum parts sent : List ℕ) (c : Card) (cs : List Card) (entry : List ℕ) (e : entry ≡ take 75 parts) where
+  inner : (b j : ℕ) → b + j ≤ 75 → part b j entry ≡ part b j parts
+  inner b j l = ap (part b j) e ∙ part-part b j 0 75 parts l ∙ rw zero-add
+
+  as_lent : passes standard master c entry ≡ passes standard master c parts
+  unfolding passes
+  as_lent = rw (inner 0 8 (omega arith), inner 8 4 (omega arith), inner 12 63 (omega arith))
+
+  rest-step : rest master sum (c ∷ cs) parts sent
+      ≡ (passes standard master c entry && all_pass standard master cs (drop 75 parts)
+      && same (pool_sum standard master (xors sum (value (opened_body standard master c (part 12 63 entry)))) cs (drop 75 parts)) sent)
   unfolding all_pass pool_sum
-  rest-done h = ap (λ (cs : List Card). rest master sum cs (drop from reply) sent) (read_none cards at h)
+  rest-step = rw (as_lent, inner 12 63 (omega arith))
 
-  module _ (n : ℕ) (h : Here cards at n) (k : ℕ) (e : k ≡ 75) where
-    -- 75 bytes from there on are as good as all of them
-    inner : (b j : ℕ) → b + j ≤ 75 → part b j (part from k reply) ≡ part b j (drop from reply)
-    inner b j l = part-part b j from k reply (omega arith) ∙ sym (ap (take j) (drop-drop b from reply))
+  pub rest-failed : passes standard master c entry ≡ false → rest master sum (c ∷ cs) parts sent ≡ false
+  rest-failed f = rest-step ∙ rw f
 
-    as_lent : (c : Card) → passes standard master c (part from k reply) ≡ passes standard master c (drop from reply)
-    unfolding passes
-    as_lent c = rw (inner 0 8 (omega arith), inner 8 4 (omega arith), inner 12 63 (omega arith))
-
-    abbrev after : List Card
-    after = read_all (cut (drop (at + n) cards))
-
-    rest-step : (c : Card) → c ≡ read_card (card cards at n)
-        → rest master sum (read_all (cut (drop at cards))) (drop from reply) sent
-        ≡ (passes standard master c (part from k reply) && all_pass standard master after (drop (from + 75) reply)
-        && same (pool_sum standard master (xors sum (value (opened_body standard master c (part 12 63 (part from k reply))))) after (drop (from + 75) reply)) sent)
-    unfolding all_pass pool_sum
-    rest-step c g =
-        ap (λ (cs : List Card). rest master sum cs (drop from reply) sent) (read_more cards at n h ∙ ap (λ (x : Card). x ∷ after) (sym g))
-        ∙ ap (λ (ps : List ℕ). passes standard master c (drop from reply) && all_pass standard master after ps
-        && same (pool_sum standard master (xors sum (value (opened_body standard master c (part 12 63 (drop from reply))))) after ps) sent) (drop-drop 75 from reply)
-        ∙ ap₂ (λ (b : Bool) (r : List ℕ). b && all_pass standard master after (drop (from + 75) reply)
-        && same (pool_sum standard master (xors sum (value (opened_body standard master c r))) after (drop (from + 75) reply)) sent) (sym (as_lent c)) (sym (inner 12 63 (omega arith)))
-
-    module _ (c : DC.Card) (g : card_of c ≡ read_card (card cards at n)) (holds : Bool) (p : holds ≡ passes standard master (card_of c) (part from k reply)) where
-      pub rest-failed : holds ≡ false → rest master sum (read_all (cut (drop at cards))) (drop from reply) sent ≡ false
-      rest-failed f = let q : passes standard master (card_of c) (part from k reply) ≡ false = sym p ∙ f in rest-step (card_of c) g ∙ rw q
-
-      pub rest-next : holds ≡ true → (x : List ℕ) → (holds ≡ true → x ≡ value (opened_body standard master (card_of c) (part 12 63 (part from k reply))))
-          → (more : List ℕ) → more ≡ xors sum x
-          → rest master sum (read_all (cut (drop at cards))) (drop from reply) sent ≡ rest master more after (drop (from + 75) reply) sent
-      rest-next f x t more m =
-          let q : passes standard master (card_of c) (part from k reply) ≡ true = sym p ∙ f in
-          let s : xors sum (value (opened_body standard master (card_of c) (part 12 63 (part from k reply)))) ≡ more = ap (xors sum) (sym (t f)) ∙ sym m in
-          rest-step (card_of c) g ∙ rw (q, s)
+  pub rest-next : passes standard master c entry ≡ true → (x : List ℕ) → x ≡ value (opened_body standard master c (part 12 63 entry))
+      → (more : List ℕ) → more ≡ xors sum x → rest master sum (c ∷ cs) parts sent ≡ rest master more cs (drop 75 parts) sent
+  rest-next f x t more m = rest-step ∙ rw (f, ← t, ← m)
 
 -- whether a reply is accepted
-length-read : (xs : List (List ℕ)) → length (read_all xs) ≡ length xs
-unfolding read_all
-length-read [] = refl
-length-read (x ∷ xs) = ap suc (length-read xs)
-
 regroup : (a b v n p s : Bool) → (a && b && v && n && p && s) ≡ cond a (cond (b && v) (cond n (p && s) false) false) false
 regroup false b v n p s = refl
 regroup true false v n p s = refl
@@ -203,7 +186,7 @@ module _ (master cards reply : List ℕ) (count : ℕ) (e : count ≡ length (cu
       ≡ cond (eqb (length reply) (2 + (35 + 75 * count))) (cond (head_fits (35 + 75 * count) 1 reply) (cond (eqb (of_be (part 3 2 reply)) count) answer false) false) false
   unfolding pool_fits head_fits
   fits_whole =
-      let m : length (read_all (cut cards)) ≡ count = length-read (cut cards) ∙ sym e in
+      let m : length (read_all (cut cards)) ≡ count = count-read (cut cards) ∙ sym e in
       let size : 37 + 75 * count ≡ 2 + (35 + 75 * count) = omega arith in
       ap (λ (k : ℕ). eqb (length reply) (37 + 75 * k) && eqb (of_be (part 0 2 reply)) (35 + 75 * k) && eqb (get_or reply 2 0) 1 && eqb (of_be (part 3 2 reply)) k
       && all_pass standard master (read_all (cut cards)) (drop 37 reply)

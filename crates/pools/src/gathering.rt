@@ -4,10 +4,14 @@
 ghost use Rattle.std.specs.Prelude.{◌≡◌, [], ◌∷◌, ◌++◌, ◌+◌, ◌*◌, ◌/◌, ◌%◌, ◌≤◌, length, take, replicate};
 ghost use Rattle.octets.specs.Octets.{be, put};
 ghost use Rattle.counts.specs.Sizes.{reply_size, pooled_head, pooled_entry};
+ghost use Rattle.counts.specs.Refused.{code_in};
 ghost use Rattle.counts.specs.Lengths.{reply_length_field, pooled_head_length};
 ghost use Rattle.scheme.specs.Records.{head_known};
 ghost use Rattle.scheme.specs.Pools as S;
 ghost use Rattle.scheme.specs.Pools.{every, singles};
+
+use counts::refusal::Refusal;
+use counts::{lengths, limits, sizes};
 
 // Whether every reply has its length field and a version that there is.
 fn heads_fit(replies: &[u8]) -> bool
@@ -16,8 +20,8 @@ fn heads_fit(replies: &[u8]) -> bool
 {
     let mut at: usize = 0;
     while at < replies.len() {
-        let end = at + counts::sizes::REPLY;
-        let fits = records::head_known(&replies[at..end], counts::lengths::REPLY);
+        let end = at + sizes::REPLY;
+        let fits = records::head_known(&replies[at..end], lengths::REPLY);
         if !fits {
             return false;
         }
@@ -26,34 +30,26 @@ fn heads_fit(replies: &[u8]) -> bool
     true
 }
 
-// The code of a gathering that is turned away: 1 for a length that 110 does not divide, 2 for a reply of another length field or of no version that
-// there is, 23 for fewer than two or more than sixteen replies, 1 for another size of the pooled reply, 0 for none of these. Writes nothing.
-fn gather_fault(replies: &[u8], pooled: &[u8]) -> u64
-    ensures { result ≡ S.gather_code replies.now pooled.now }
+// Refuses a gathering: WrongLength for a length that 110 does not divide, WrongHeader for a reply of another length field or of no version that there is,
+// BadPool for fewer than two or more than sixteen replies, WrongLength for another size of the pooled reply.
+fn check_gather(replies: &[u8], pooled: &[u8]) -> Result<(), Refusal>
+    ensures { code_in result ≡ S.gather_code replies.now pooled.now }
 {
     let long = replies.len() as u64;
-    if long % counts::sizes::REPLY_BYTES != 0 {
-        return counts::codes::WRONG_LENGTH;
+    if long % sizes::REPLY_BYTES != 0 {
+        return Err(Refusal::WrongLength);
     }
-    let heads = heads_fit(replies);
-    if !heads {
-        return counts::codes::WRONG_HEADER;
+    if !heads_fit(replies) {
+        return Err(Refusal::WrongHeader);
     }
-    let count = long / counts::sizes::REPLY_BYTES;
-    let some = records::within(
-        counts::limits::LEAST_POOLED,
-        counts::limits::MOST_POOLED,
-        count,
-    );
-    if !some {
-        return counts::codes::BAD_POOL;
+    let count = long / sizes::REPLY_BYTES;
+    if !records::within(limits::LEAST_POOLED, limits::MOST_POOLED, count) {
+        return Err(Refusal::BadPool);
     }
-    if pooled.len() as u64
-        != counts::sizes::POOLED_HEAD_BYTES + counts::sizes::POOLED_ENTRY_BYTES * count
-    {
-        return counts::codes::WRONG_LENGTH;
+    if pooled.len() as u64 != sizes::POOLED_HEAD_BYTES + sizes::POOLED_ENTRY_BYTES * count {
+        return Err(Refusal::WrongLength);
     }
-    0
+    Ok(())
 }
 
 // The xor of the digests of all replies.
@@ -67,7 +63,7 @@ fn digest_sum(replies: &[u8]) -> [u8; 32]
         let a = from + 15;
         let e = a + 32;
         octets::xor_into(&mut sum, &replies[a..e]);
-        from = from + counts::sizes::REPLY;
+        from = from + sizes::REPLY;
     }
     sum
 }
@@ -79,10 +75,10 @@ fn put_front(pooled: &mut [u8], count: u64, sum: [u8; 32])
 {
     records::put_head(
         pooled,
-        counts::lengths::POOLED_HEAD + counts::sizes::POOLED_ENTRY_BYTES * count,
+        lengths::POOLED_HEAD + sizes::POOLED_ENTRY_BYTES * count,
         1,
     );
-    octets::put_be2(pooled, 3, count);
+    octets::put_be::<2>(pooled, 3, count);
     octets::copy(pooled, 5, &sum);
 }
 
@@ -92,31 +88,28 @@ fn put_entries(replies: &[u8], pooled: &mut [u8])
     ensures { pooled.new ≡ take pooled_head pooled.old ++ S.entries (singles replies.now) }
 {
     let mut at: usize = 0;
-    let mut to: usize = counts::sizes::POOLED_HEAD;
+    let mut to: usize = sizes::POOLED_HEAD;
     while at < replies.len() {
         let a = at + 3;
         let b = a + 12;
         let d = at + 47;
-        let e = d + counts::sizes::RECORD;
+        let e = d + sizes::RECORD;
         octets::copy(pooled, to, &replies[a..b]);
         octets::copy(pooled, to + 12, &replies[d..e]);
-        at = at + counts::sizes::REPLY;
-        to = to + counts::sizes::POOLED_ENTRY;
+        at = at + sizes::REPLY;
+        to = to + sizes::POOLED_ENTRY;
     }
 }
 
-// Gather: writes the pooled reply of two to sixteen single replies and answers 0; or answers a code. A refusal leaves the pooled reply's buffer.
-pub fn gather(replies: &[u8], pooled: &mut [u8]) -> u64
-    ensures value { result ≡ S.gather_code replies.now pooled.old }
+// Gather: writes the pooled reply of two to sixteen single replies. A refusal leaves the pooled reply's buffer.
+pub fn gather(replies: &[u8], pooled: &mut [u8]) -> Result<(), Refusal>
+    ensures value { code_in result ≡ S.gather_code replies.now pooled.old }
     ensures pooled_after { pooled.new ≡ S.gather_out replies.now pooled.old }
 {
-    let fault = gather_fault(replies, pooled);
-    if fault != 0 {
-        return fault;
-    }
-    let count = replies.len() as u64 / counts::sizes::REPLY_BYTES;
+    check_gather(replies, pooled)?;
+    let count = replies.len() as u64 / sizes::REPLY_BYTES;
     let sum = digest_sum(replies);
     put_front(pooled, count, sum);
     put_entries(replies, pooled);
-    0
+    Ok(())
 }

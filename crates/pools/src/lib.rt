@@ -4,10 +4,12 @@
 
 #![tactic(auto)]
 
-ghost use Rattle.std.specs.Prelude.{◌≡◌, true, ◌&&◌, ◌+◌, ◌*◌, ◌≤◌, eqb, length, get_or, drop, replicate};
+ghost use Rattle.std.specs.Prelude.{◌≡◌, true, false, ◌&&◌, ◌+◌, ◌*◌, ◌≤◌, ◌∷◌, eqb, length, take, drop, replicate, IfOk, MatchOption};
+ghost use Rattle.std.specs.Iterator.{YieldsFirstBy, item_count};
 ghost use Rattle.octets.specs.Octets.{of_be, part};
 ghost use Rattle.octets.specs.Octets as O;
-ghost use Rattle.counts.specs.Sizes.{master_size, record_size, pooled_head, pooled_entry};
+ghost use Rattle.counts.specs.Sizes.{record_size, pooled_head, pooled_entry};
+ghost use Rattle.counts.specs.Refused.{code_in, code_of};
 ghost use Rattle.scheme.specs.Checks.{first};
 ghost use Rattle.scheme.specs.Records.{card_head};
 ghost use Rattle.scheme.specs.Table.{value};
@@ -16,9 +18,22 @@ ghost use Rattle.scheme.specs.Pools as S;
 ghost use Rattle.scheme.specs.Pools.{cut_fault, cut, read_all, every};
 ghost use Rattle.standard.specs.Standard.{standard};
 ghost use Rattle.cards.specs.Fields.{card_of};
+ghost use Rattle.judging.specs.Causes.{verdict_in};
 ghost use Rattle.pools.specs.Drawn.{drawn_checks};
 
+use counts::refusal::Refusal;
+use counts::{lengths, limits, sizes};
+use judging::Verdict;
+
 pub mod gathering;
+
+// Cards that lie end to end, the last one ending with the bytes, whose heads fit.
+#[derive(Clone, Copy)]
+struct Cards<'a> {
+    bytes: &'a [u8],
+    ghost whole: { cut_fault bytes.now ≡ 0 },
+    ghost heads: { every card_head (cut bytes.now) ≡ true },
+}
 
 // What is asked of every card in one pass: whether its numbers are within their limits, and whether a token is open.
 #[derive(Clone, Copy)]
@@ -27,193 +42,192 @@ struct Answers {
     drawn: bool,
 }
 
-// The bytes of the card that begins at an offset: two for its length field, and as many as that says.
-fn long_at(cards: &[u8], at: usize) -> usize
-    requires { at + 2 ≤ length cards.now }
-    ensures { (result ≡ 2 + of_be (part at 2 cards.now)) × (result ≤ 65537) }
+// The first of cards that lie end to end, and the others.
+fn split_first(bytes: &[u8]) -> (&[u8], &[u8])
+    requires { (cut_fault bytes.now ≡ 0) × (1 ≤ length bytes.now) }
+    ensures parts { cut bytes.now ≡ result.0.now ∷ cut result.1.now }
+    ensures whole { cut_fault result.1.now ≡ 0 }
+    ensures long { (43 ≤ length result.0.now) × (length result.0.now + length result.1.now ≡ length bytes.now) }
 {
-    2 + octets::be2(cards, at) as usize
+    bytes.split_at(2 + octets::be::<2>(bytes, 0) as usize)
 }
 
-// The code of cards that lie end to end: 2 for a length field that no card has, 1 for a rest that is shorter than its card, 0 where the last card ends
-// with the bytes.
-fn cut_fault(cards: &[u8]) -> u64
-    ensures { result ≡ cut_fault cards.now }
+// Refuses cards that do not lie end to end: WrongHeader for a length field that no card has, WrongLength for a rest that is shorter than its card.
+fn check_cut(bytes: &[u8]) -> Result<(), Refusal>
+    ensures { code_in result ≡ cut_fault bytes.now }
 {
-    let mut at: usize = 0;
-    while at < cards.len() {
-        let rest = cards.len() - at;
-        if rest < 2 {
-            return counts::codes::WRONG_LENGTH;
+    let mut rest = bytes;
+    while !rest.is_empty() {
+        if rest.len() < 2 {
+            return Err(Refusal::WrongLength);
         }
-        let long = long_at(cards, at);
-        let known = (long == counts::sizes::CARD) | (long == counts::sizes::TWO_STEP_CARD);
+        let long = 2 + octets::be::<2>(rest, 0) as usize;
+        let known = (long == sizes::CARD) | (long == sizes::TWO_STEP_CARD);
         if !known {
-            return counts::codes::WRONG_HEADER;
+            return Err(Refusal::WrongHeader);
         }
-        if rest < long {
-            return counts::codes::WRONG_LENGTH;
+        if rest.len() < long {
+            return Err(Refusal::WrongLength);
         }
-        at = at + long;
+        rest = rest.split_at(long).1;
     }
-    0
+    Ok(())
+}
+
+// Whether every card bears a version that there is, and has the length field and the size of that version.
+fn heads_fit(bytes: &[u8]) -> bool
+    requires { cut_fault bytes.now ≡ 0 }
+    ensures { result ≡ every card_head (cut bytes.now) }
+{
+    let mut rest = bytes;
+    while !rest.is_empty() {
+        let (card, others) = split_first(rest);
+        if !cards::head_fits(card) {
+            return false;
+        }
+        rest = others;
+    }
+    true
+}
+
+// The numbers of each card in turn.
+impl<'a> Iterator for Cards<'a> {
+    type Item = cards::Card;
+
+    ghost next_gives = { YieldsFirstBy card_of (λ s. read_all (cut s.bytes.now)) };
+
+    ghost remaining = { item_count (λ s. read_all (cut s.bytes.now)) };
+
+    fn next(&mut self) -> Option<cards::Card> {
+        if self.bytes.is_empty() {
+            return None;
+        }
+        let (card, others) = split_first(self.bytes);
+        self.bytes = others;
+        Some(cards::read_card(card))
+    }
 }
 
 // How many cards there are.
-fn count_of(cards: &[u8]) -> u64
-    requires { cut_fault cards.now ≡ 0 }
-    ensures { result ≡ length (cut cards.now) }
+fn count_of(cards: Cards) -> u64
+    ensures { result ≡ length (cut cards.entry.bytes.now) }
 {
     let mut count: u64 = 0;
-    let mut at: usize = 0;
-    while at < cards.len() {
-        let long = long_at(cards, at);
-        at = at + long;
+    for _card in cards {
         count += 1;
     }
     count
 }
 
-// Whether every card bears a version that there is, and has the length field and the size of that version.
-fn heads_fit(cards: &[u8]) -> bool
-    requires { cut_fault cards.now ≡ 0 }
-    ensures { result ≡ every card_head (cut cards.now) }
-{
-    let mut at: usize = 0;
-    while at < cards.len() {
-        let end = at + long_at(cards, at);
-        let fits = cards::head_fits(&cards[at..end]);
-        if !fits {
-            return false;
-        }
-        at = end;
-    }
-    true
-}
-
 // Whether every card's numbers are within their limits, and whether a token is open on every one. Every card is looked at.
-fn seen(cards: &[u8]) -> Answers
-    requires { (cut_fault cards.now ≡ 0) × (every card_head (cut cards.now) ≡ true) }
-    ensures { (result.fit ≡ every S.in_limits (cut cards.now)) × (result.drawn ≡ every S.is_open (cut cards.now)) }
+fn seen(cards: Cards) -> Answers
+    ensures fit { result.fit ≡ every S.in_limits (cut cards.entry.bytes.now) }
+    ensures drawn { result.drawn ≡ every S.is_open (cut cards.entry.bytes.now) }
 {
-    let mut fit = true;
-    let mut drawn = true;
-    let mut at: usize = 0;
-    while at < cards.len() {
-        let end = at + long_at(cards, at);
-        let c = cards::read_card(&cards[at..end]);
-        let fits = cards::card_fits(c);
-        fit = fit & fits;
-        drawn = drawn & (0 < c.open_token);
-        at = end;
+    let mut all = Answers {
+        fit: true,
+        drawn: true,
+    };
+    for c in cards {
+        all.fit &= cards::card_fits(c);
+        all.drawn &= 0 < c.open_token;
     }
-    Answers { fit, drawn }
+    all
 }
 
-// Whether no card from an offset on is of a file.
-fn absent(cards: &[u8], from: usize, id: [u8; 8]) -> bool
-    requires { (from ≤ length cards.now) × (cut_fault (drop from cards.now) ≡ 0) }
-    ensures { result ≡ S.absent id (read_all (cut (drop from cards.now))) }
+// Whether no card is of a file.
+fn absent(cards: Cards, id: [u8; 8]) -> bool
+    ensures { result ≡ S.absent id (read_all (cut cards.entry.bytes.now)) }
 {
-    let mut at = from;
-    while at < cards.len() {
-        let end = at + long_at(cards, at);
-        let a = at + 3;
-        let e = at + 11;
-        let equal = octets::same(&id, &cards[a..e]);
-        if equal {
+    for c in cards {
+        if octets::same(&id, &c.id) {
             return false;
         }
-        at = end;
     }
     true
 }
 
 // Whether the cards are of different files.
-fn distinct(cards: &[u8]) -> bool
-    requires { cut_fault cards.now ≡ 0 }
-    ensures { result ≡ S.distinct (read_all (cut cards.now)) }
+fn distinct(cards: Cards) -> bool
+    ensures { result ≡ S.distinct (read_all (cut cards.entry.bytes.now)) }
 {
-    let mut at: usize = 0;
-    while at < cards.len() {
-        let end = at + long_at(cards, at);
-        let id = records::bytes8(cards, at + 3);
-        let alone = absent(cards, end, id);
-        if !alone {
+    let mut rest = cards;
+    while let Some(c) = rest.next() {
+        if !absent(rest, c.id) {
             return false;
         }
-        at = end;
     }
     true
 }
 
-// The code of cards whose heads fit: 3 for a number outside its limits, 23 for fewer than two cards, more than sixteen or two of one file, 9 where no
-// token is open on one of them, 0 for none of these.
-fn drawn_fault(cards: &[u8]) -> u64
-    requires { (cut_fault cards.now ≡ 0) × (every card_head (cut cards.now) ≡ true) }
-    ensures { result ≡ first 0 (drawn_checks cards.now) }
+// Refuses cards: OutOfLimits for a number outside its limits, BadPool for fewer than two cards, more than sixteen or two of one file, NoneOpen where no
+// token is open on one of them.
+fn check_drawn(cards: Cards) -> Result<(), Refusal>
+    ensures { code_in result ≡ first 0 (drawn_checks cards.entry.bytes.now) }
 {
     let all = seen(cards);
     if !all.fit {
-        return counts::codes::OUT_OF_LIMITS;
+        return Err(Refusal::OutOfLimits);
     }
-    let some = records::within(
-        counts::limits::LEAST_POOLED,
-        counts::limits::MOST_POOLED,
-        count_of(cards),
-    );
-    if !some {
-        return counts::codes::BAD_POOL;
+    if !records::within(limits::LEAST_POOLED, limits::MOST_POOLED, count_of(cards)) {
+        return Err(Refusal::BadPool);
     }
-    let differ = distinct(cards);
-    if !differ {
-        return counts::codes::BAD_POOL;
+    if !distinct(cards) {
+        return Err(Refusal::BadPool);
     }
     if !all.drawn {
-        return counts::codes::NONE_OPEN;
+        return Err(Refusal::NoneOpen);
     }
-    0
+    Ok(())
 }
 
-// The code of a pooled judging that is turned away, 0 where it is not. Writes nothing.
-fn pool_fault(master: &[u8], cards: &[u8]) -> u64
-    ensures { result ≡ S.pool_fault master.now cards.now }
+// What a pooled judging is lent, its master and its cards, or why it is turned away.
+fn lent<'a, 'b>(master: &'a [u8], bytes: &'b [u8]) -> Result<(&'a [u8; 32], Cards<'b>), Refusal>
+    ensures code { code_of result ≡ S.pool_fault master.now bytes.now }
+    ensures kept { IfOk result (λ p. (p.0.now ≡ master.now) × (p.1.bytes.now ≡ bytes.now)) }
 {
-    let fault = cut_fault(cards);
-    if fault != 0 {
-        return fault;
+    check_cut(bytes)?;
+    let Ok(master) = <&[u8; 32]>::try_from(master) else {
+        return Err(Refusal::WrongLength);
+    };
+    if !heads_fit(bytes) {
+        return Err(Refusal::WrongHeader);
     }
-    if master.len() != counts::sizes::MASTER {
-        return counts::codes::WRONG_LENGTH;
-    }
-    let heads = heads_fit(cards);
-    if !heads {
-        return counts::codes::WRONG_HEADER;
-    }
-    drawn_fault(cards)
+    let cards = Cards { bytes };
+    check_drawn(cards)?;
+    Ok((master, cards))
 }
 
-// What a card's 75 bytes of a pooled reply open to, id, i and record: whether they pass as for single judging, and the token where they do. The key of
-// the file is reckoned only where the clear bytes fit.
-fn passes(master: &[u8], c: cards::Card, entry: &[u8]) -> judging::Body
-    requires { (length master.now ≡ master_size) × (length entry.now ≡ pooled_entry) }
-    ensures holds_value { result.holds ≡ S.passes standard master.now (card_of c) entry.now }
-    ensures token_value { result.holds ≡ true → result.token ≡ value (opened_body standard master.now (card_of c) (part 12 record_size entry.now)) }
+// The record in a card's 75 bytes of a pooled reply.
+fn record_in(entry: &[u8; 75]) -> &[u8; 63]
+    ensures { result.now ≡ drop 12 entry.now }
 {
-    let id = c.id;
-    let head = records::head_fits(&entry[12..75], counts::lengths::RECORD, c.version);
-    let i = records::be4(entry, 8);
-    let names = judging::names_fit(id, c.open_token, &entry[0..8], i, &entry[12..75]);
-    let counter = octets::be8(entry, 15);
-    let clear = head & names & (counter == c.counter);
+    entry.last_chunk().unwrap()
+}
+
+// The first 75 bytes of the parts of a pooled reply, and the others.
+fn split_part(parts: &[u8]) -> (&[u8; 75], &[u8])
+    requires { 75 ≤ length parts.now }
+    ensures { (result.0.now ≡ take 75 parts.now) × (result.1.now ≡ drop 75 parts.now) }
+{
+    parts.split_first_chunk().unwrap()
+}
+
+// What a card's 75 bytes of a pooled reply open to, id, i and record: the token where they pass as for single judging. The key of the file is computed only
+// where the clear bytes fit.
+fn passes(master: &[u8; 32], c: cards::Card, entry: &[u8; 75]) -> Option<[u8; 32]>
+    ensures { MatchOption result (S.passes standard master.now (card_of c) entry.now ≡ false) (λ x. (S.passes standard master.now (card_of c) entry.now ≡ true) × (x ≡ value (opened_body standard master.now (card_of c) (part 12 record_size entry.now)))) }
+{
+    let rec = record_in(entry);
+    let head = records::head_fits(rec, lengths::RECORD, c.version);
+    let i = octets::be::<4>(entry, 8);
+    let names = judging::names_fit(c.id, c.open_token, octets::bytes::<8>(entry, 0), i, rec);
+    let clear = head & names & (octets::be::<8>(rec, 3) == c.counter);
     if !clear {
-        return judging::Body {
-            holds: false,
-            token: [0u8; 32],
-        };
+        return None;
     }
-    let k = tokens::sealing_key(master, id);
-    judging::opened(k, c.counter, c.open_token, &entry[12..75])
+    let k = tokens::sealing_key(master, c.id);
+    judging::opened(k, c.counter, c.open_token, rec)
 }
 
 // Whether the xor of the opened tokens is the one that a pooled reply tells. Every byte is looked at before the answer.
@@ -226,47 +240,49 @@ fn is_sum(sum: [u8; 32], reply: &[u8]) -> bool
 
 // Whether every card's part of a pooled reply passes, and the xor of the opened tokens is the one that the reply tells. Stops at the first part that does
 // not pass.
-fn all_pass(master: &[u8], cards: &[u8], reply: &[u8]) -> bool
-    requires { (cut_fault cards.now ≡ 0) × (every card_head (cut cards.now) ≡ true) × (length master.now ≡ master_size) × (length reply.now ≡ pooled_head + pooled_entry * length (cut cards.now)) }
-    ensures { result ≡ (S.all_pass standard master.now (read_all (cut cards.now)) (drop pooled_head reply.now) && O.same (S.pool_sum standard master.now (replicate 32 0) (read_all (cut cards.now)) (drop pooled_head reply.now)) (part 5 32 reply.now)) }
+fn all_pass(master: &[u8; 32], cards: Cards, reply: &[u8]) -> bool
+    requires { length reply.now ≡ pooled_head + pooled_entry * length (cut cards.bytes.now) }
+    ensures { result ≡ (S.all_pass standard master.now (read_all (cut cards.entry.bytes.now)) (drop pooled_head reply.now) && O.same (S.pool_sum standard master.now (replicate 32 0) (read_all (cut cards.entry.bytes.now)) (drop pooled_head reply.now)) (part 5 32 reply.now)) }
 {
     let mut sum = [0u8; 32];
-    let mut from: usize = counts::sizes::POOLED_HEAD;
-    let mut at: usize = 0;
-    while at < cards.len() {
-        let end = at + long_at(cards, at);
-        let to = from + counts::sizes::POOLED_ENTRY;
-        let c = cards::read_card(&cards[at..end]);
-        let body = passes(master, c, &reply[from..to]);
-        if !body.holds {
+    let mut parts = reply.split_at(sizes::POOLED_HEAD).1;
+    for c in cards {
+        let (entry, others) = split_part(parts);
+        let Some(x) = passes(master, c, entry) else {
             return false;
-        }
-        let x = body.token;
-        let more = octets::xor32(sum, x);
+        };
+        let more = octets::xor(sum, x);
         sum = more;
-        from = to;
-        at = end;
+        parts = others;
     }
     is_sum(sum, reply)
 }
 
-// Whether a pooled reply is accepted on so many cards, up to sixteen.
-fn pool_fits(master: &[u8], cards: &[u8], count: u64, reply: &[u8]) -> bool
-    requires { (cut_fault cards.now ≡ 0) × (every card_head (cut cards.now) ≡ true) × (length master.now ≡ master_size) × (count ≡ length (cut cards.now)) × (count ≤ 16) }
-    ensures { result ≡ S.pool_fits standard master.now (read_all (cut cards.now)) reply.now }
+// Whether a pooled reply is accepted on cards, up to sixteen.
+fn pool_fits(master: &[u8; 32], cards: Cards, reply: &[u8]) -> bool
+    requires { length (cut cards.bytes.now) ≤ 16 }
+    ensures { result ≡ S.pool_fits standard master.now (read_all (cut cards.entry.bytes.now)) reply.now }
 {
-    let long = counts::lengths::POOLED_HEAD + counts::sizes::POOLED_ENTRY_BYTES * count;
+    let count = count_of(cards);
+    let long = lengths::POOLED_HEAD + sizes::POOLED_ENTRY_BYTES * count;
     if reply.len() as u64 != 2 + long {
         return false;
     }
-    let head = records::head_fits(reply, long, 1);
-    if !head {
+    if !records::head_fits(reply, long, 1) {
         return false;
     }
-    if octets::be2(reply, 3) != count {
+    if octets::be::<2>(reply, 3) != count {
         return false;
     }
     all_pass(master, cards, reply)
+}
+
+// The bytes of the card that begins at an offset: two for its length field, and as many as that says.
+fn long_at(cards: &[u8], at: usize) -> usize
+    requires { at + 2 ≤ length cards.now }
+    ensures { (result ≡ 2 + of_be (part at 2 cards.now)) × (result ≤ 65537) }
+{
+    2 + octets::be::<2>(cards, at) as usize
 }
 
 // Closes the draw of every card: writes each with no token open, and alters nothing else.
@@ -284,21 +300,17 @@ fn close_all(cards: &mut [u8])
     }
 }
 
-// Judge pool: answers the verdict on a pooled reply of any length, 0 or 11, and writes every card with no token open; or answers a code.
-// A refusal leaves every card.
-pub fn judge_pool(master: &[u8], cards: &mut [u8], reply: &[u8]) -> u64
-    ensures value { result ≡ S.pool_code standard master.now cards.old reply.now }
+// Judge pool: the verdict on a pooled reply of any length, and writes every card with no token open; or a refusal, which leaves every card.
+pub fn judge_pool(master: &[u8], cards: &mut [u8], reply: &[u8]) -> Result<Verdict, Refusal>
+    ensures value { verdict_in result ≡ S.pool_code standard master.now cards.old reply.now }
     ensures cards_after { cards.new ≡ S.pool_cards standard master.now cards.old reply.now }
 {
-    let fault = pool_fault(master, cards);
-    if fault != 0 {
-        return fault;
-    }
-    let count = count_of(cards);
-    let fits = pool_fits(master, cards, count, reply);
+    let (master, pool) = lent(master, cards)?;
+    let fits = pool_fits(master, pool, reply);
     close_all(cards);
     if fits {
-        return 0;
+        Ok(Verdict::Accepted)
+    } else {
+        Ok(Verdict::Rejected)
     }
-    counts::codes::REJECTED
 }

@@ -4,6 +4,7 @@
 #![tactic(auto)]
 
 ghost use Rattle.std.specs.Prelude.{◌≡◌, ◌&&◌, ◌+◌, ◌*◌, ◌≤◌, ◌<◌, eqb, length};
+ghost use Rattle.counts.specs.Refused.{code_in};
 ghost use Rattle.counts.specs.Sizes.{master_size, id_size, record_size, totals_size};
 ghost use Rattle.counts.specs.Limits.{most_block_bytes, most_rows, most_positions, most_tokens, most_blocks};
 ghost use Rattle.scheme.specs.Calls as S;
@@ -16,91 +17,75 @@ ghost use Rattle.scheme.specs.Totals.{sum_from, digest_turns, digest_hashes};
 ghost use Rattle.standard.specs.Standard.{standard};
 ghost use Rattle.tokens.specs.Keyed.{token_key};
 
+use counts::refusal::Refusal;
+use counts::sizes;
+
+// The numbers of a new file: its version, B, d, r, t and n.
+#[derive(Clone, Copy)]
+pub struct Numbers {
+    pub version: u64,
+    pub block_bytes: u64,
+    pub rows: u64,
+    pub positions: u64,
+    pub tokens: u64,
+    pub blocks: u64,
+}
+
+impl Numbers {
+    // Whether there is such a version, and the numbers are within their limits.
+    fn fit(self) -> bool
+        ensures { result ≡ (version_fits self.version && shape_fits self.block_bytes self.rows self.positions && token_fits self.tokens && blocks_fit self.blocks) }
+    {
+        records::version_fits(self.version)
+            & records::shape_fits(self.block_bytes, self.rows, self.positions)
+            & records::token_fits(self.tokens)
+            & records::blocks_fit(self.blocks)
+    }
+
+    // Whether the blocks, the card and the table of a set-up have the bytes that the version and numbers within the limits ask for.
+    fn sizes_fit(self, blocks: &[u8], card: &[u8], table: &[u8]) -> bool
+        requires { (self.block_bytes ≤ most_block_bytes) × (self.blocks ≤ most_blocks) × (self.tokens ≤ most_tokens) }
+        ensures { result ≡ (eqb (length blocks.now) (self.blocks * self.block_bytes) && eqb (length card.now) (2 + card_length self.version) && eqb (length table.now) (self.tokens * record_size)) }
+    {
+        let whole = blocks.len() as u64 == self.blocks * self.block_bytes;
+        let told = card.len() as u64 == 2 + cards::card_length(self.version);
+        whole & told & (table.len() as u64 == self.tokens * sizes::RECORD_BYTES)
+    }
+}
+
 // Whether the master, the id, the card and the totals that a set-up is lent have their lengths, the card that of some version.
 fn lent_fits(master: &[u8], id: &[u8], card: &[u8], totals: &[u8]) -> bool
     ensures { result ≡ (eqb (length master.now) master_size && eqb (length id.now) id_size && card_sized card.now && eqb (length totals.now) totals_size) }
 {
     let sized = cards::sized(card);
-    (master.len() == counts::sizes::MASTER)
-        & (id.len() == counts::sizes::ID)
+    (master.len() == sizes::MASTER)
+        & (id.len() == sizes::ID)
         & sized
-        & (totals.len() == counts::sizes::TOTALS)
+        & (totals.len() == sizes::TOTALS)
 }
 
-// Whether there is such a version, and the numbers of a set-up are within their limits.
-fn numbers_fit(
-    version: u64,
-    block_bytes: u64,
-    rows: u64,
-    positions: u64,
-    tokens: u64,
-    blocks_count: u64,
-) -> bool
-    ensures { result ≡ (version_fits version && shape_fits block_bytes rows positions && token_fits tokens && blocks_fit blocks_count) }
-{
-    let known = records::version_fits(version);
-    let shape = records::shape_fits(block_bytes, rows, positions);
-    let few = records::token_fits(tokens);
-    let some = records::blocks_fit(blocks_count);
-    known & shape & few & some
-}
-
-// Whether the blocks, the card and the table of a set-up have the bytes that the version and numbers within the limits ask for.
-fn sizes_fit(
-    version: u64,
-    block_bytes: u64,
-    tokens: u64,
-    blocks_count: u64,
-    blocks: &[u8],
-    card: &[u8],
-    table: &[u8],
-) -> bool
-    requires { (block_bytes ≤ most_block_bytes) × (blocks_count ≤ most_blocks) × (tokens ≤ most_tokens) }
-    ensures { result ≡ (eqb (length blocks.now) (blocks_count * block_bytes) && eqb (length card.now) (2 + card_length version) && eqb (length table.now) (tokens * record_size)) }
-{
-    let whole = blocks.len() as u64 == blocks_count * block_bytes;
-    let told = card.len() as u64 == 2 + cards::card_length(version);
-    whole & told & (table.len() as u64 == tokens * counts::sizes::RECORD_BYTES)
-}
-
-// The code of a set-up. Writes nothing.
-fn set_up_code(
+// Refuses a set-up: WrongLength for a buffer of fixed size, OutOfLimits, then WrongLength for one whose size the numbers give. Writes nothing.
+fn check(
     master: &[u8],
     id: &[u8],
-    version: u64,
-    block_bytes: u64,
-    rows: u64,
-    positions: u64,
-    tokens: u64,
-    blocks_count: u64,
+    numbers: Numbers,
     blocks: &[u8],
     card: &[u8],
     table: &[u8],
     totals: &[u8],
-) -> u64
-    ensures { result ≡ S.set_up_code standard master.now id.now version block_bytes rows positions tokens blocks_count blocks.now card.now table.now totals.now }
+) -> Result<(), Refusal>
+    ensures { code_in result ≡ S.set_up_code standard master.now id.now numbers.version numbers.block_bytes numbers.rows numbers.positions numbers.tokens numbers.blocks blocks.now card.now table.now totals.now }
 {
-    let lent = lent_fits(master, id, card, totals);
-    if !lent {
-        return counts::codes::WRONG_LENGTH;
+    if !lent_fits(master, id, card, totals) {
+        return Err(Refusal::WrongLength);
     }
-    let numbers = numbers_fit(version, block_bytes, rows, positions, tokens, blocks_count);
-    if !numbers {
-        return counts::codes::OUT_OF_LIMITS;
+    if !numbers.fit() {
+        return Err(Refusal::OutOfLimits);
     }
-    let sizes = sizes_fit(
-        version,
-        block_bytes,
-        tokens,
-        blocks_count,
-        blocks,
-        card,
-        table,
-    );
-    if !sizes {
-        return counts::codes::WRONG_LENGTH;
+    if !numbers.sizes_fit(blocks, card, table) {
+        return Err(Refusal::WrongLength);
     }
-    0
+    Ok(())
 }
 
 // Fills the table of a new file: record i holds token i over the blocks, all live, sealed in the card's version at counter 0. Each drawn block of a token
@@ -124,8 +109,7 @@ fn fill_table(keys: tokens::Keys, c: cards::Card, blocks: &[u8], table: &mut [u8
     };
     let mut turns: u64 = 0;
     let mut hashes: u64 = 0;
-    let mut i: u64 = 1;
-    while i <= c.tokens {
+    for i in 1..c.tokens + 1 {
         let draw_key = tokens::token_key(w, counts::Token(i));
         let hash_key = tokens::token_key(z, counts::Token(i));
         let x = digests::digest(draw_key, hash_key, b, c.positions, blocks, &live);
@@ -133,7 +117,6 @@ fn fill_table(keys: tokens::Keys, c: cards::Card, blocks: &[u8], table: &mut [u8
         seals::seal_token(k, c.version, 0, counts::Token(i), token, table);
         turns += x.turns;
         hashes += x.hashes;
-        i += 1;
     }
     counts::Totals { turns, hashes }
 }
@@ -144,58 +127,37 @@ fn file_id(id: &[u8]) -> [u8; 8]
     ensures { result ≡ id.now }
 {
     let mut file = [0u8; 8];
-    octets::copy(&mut file, 0, id);
+    file.copy_from_slice(id);
     file
 }
 
-// Set-up: writes the card and the table of a new file over the blocks present and its totals, and answers 0; a refusal leaves all three. Rows
-// beyond the blocks are empty and add nothing.
+// Set-up: writes the card and the table of a new file over the blocks present and its totals; a refusal leaves all three. Rows beyond the blocks are empty
+// and add nothing.
 pub fn set_up(
     master: &[u8],
     id: &[u8],
-    version: u64,
-    block_bytes: u64,
-    rows: u64,
-    positions: u64,
-    tokens: u64,
-    blocks_count: u64,
+    numbers: Numbers,
     blocks: &[u8],
     card: &mut [u8],
     table: &mut [u8],
     totals: &mut [u8],
-) -> u64
-    ensures value { result ≡ S.set_up_code standard master.now id.now version block_bytes rows positions tokens blocks_count blocks.now card.old table.old totals.old }
-    ensures card_after { card.new ≡ S.set_up_card standard master.now id.now version block_bytes rows positions tokens blocks_count blocks.now card.old table.old totals.old }
-    ensures table_after { table.new ≡ S.set_up_table standard master.now id.now version block_bytes rows positions tokens blocks_count blocks.now card.old table.old totals.old }
-    ensures totals_after { totals.new ≡ S.set_up_totals standard master.now id.now version block_bytes rows positions tokens blocks_count blocks.now card.old table.old totals.old }
+) -> Result<(), Refusal>
+    ensures value { code_in result ≡ S.set_up_code standard master.now id.now numbers.version numbers.block_bytes numbers.rows numbers.positions numbers.tokens numbers.blocks blocks.now card.old table.old totals.old }
+    ensures card_after { card.new ≡ S.set_up_card standard master.now id.now numbers.version numbers.block_bytes numbers.rows numbers.positions numbers.tokens numbers.blocks blocks.now card.old table.old totals.old }
+    ensures table_after { table.new ≡ S.set_up_table standard master.now id.now numbers.version numbers.block_bytes numbers.rows numbers.positions numbers.tokens numbers.blocks blocks.now card.old table.old totals.old }
+    ensures totals_after { totals.new ≡ S.set_up_totals standard master.now id.now numbers.version numbers.block_bytes numbers.rows numbers.positions numbers.tokens numbers.blocks blocks.now card.old table.old totals.old }
 {
-    let code = set_up_code(
-        master,
-        id,
-        version,
-        block_bytes,
-        rows,
-        positions,
-        tokens,
-        blocks_count,
-        blocks,
-        card,
-        table,
-        totals,
-    );
-    if code != 0 {
-        return code;
-    }
+    check(master, id, numbers, blocks, card, table, totals)?;
     let file = file_id(id);
     let keys = tokens::file_keys(master, file);
     let c = cards::Card {
-        version,
+        version: numbers.version,
         id: file,
-        block_bytes,
-        rows,
-        positions,
-        tokens,
-        blocks: blocks_count,
+        block_bytes: numbers.block_bytes,
+        rows: numbers.rows,
+        positions: numbers.positions,
+        tokens: numbers.tokens,
+        blocks: numbers.blocks,
         counter: 0,
         next: 1,
         open_token: 0,
@@ -206,5 +168,5 @@ pub fn set_up(
     let changes = fill_table(keys, c, blocks, table);
     cards::write_card(card, c);
     records::write_totals(totals, changes);
-    0
+    Ok(())
 }

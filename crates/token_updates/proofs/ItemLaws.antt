@@ -7,7 +7,8 @@
 --   hashed-drawn                        one more, where the token draws its row
 --   hashed-undrawn                      several more, where it does not
 --   done_all                            all of them
---   one-item, all-items                 a change that comes alone; several
+--   one-added, one-replaced             a change that comes alone
+--   all-items                           several
 use Prim.Native.Nat.{ℕ, zero, suc, ◌+◌, ◌*◌, ◌-◌, ◌%◌, ◌≤◌, ◌<◌}
 use native.Mathlib.Omega.{arith}
 use native.Mathlib.Nat.{zero-mul, mod-lt, mod-add-mod}
@@ -181,12 +182,22 @@ module _ (w : BlockChanges) (om old nm new : List ℕ) where
       go false el n en h = (el, en ∙ eqb-true n 1 h)
 
   -- a change that comes alone
-  pub one-item : alone w ≡ true → (w.first, block_change_of w.fresh (om ++ take w.size old) (nm ++ take w.size new)) ∷ [] ≡ items_of w om old nm new
+  one-item : alone w ≡ true → (w.first, block_change_of w.fresh (om ++ take w.size old) (nm ++ take w.size new)) ∷ [] ≡ items_of w om old nm new
   unfolding items_of items_below number_at block_change_at
   one-item one =
       let none : 0 * w.size ≡ 0 = zero-mul w.size in
       let same : w.first + 0 ≡ w.first = omega arith in
       rw ((ways one).1, (ways one).0, none, same)
+
+  pub one-added : alone w ≡ true → w.fresh ≡ true → (w.first, added (nm ++ take w.size new)) ∷ [] ≡ items_of w om old nm new
+  unfolding block_change_of
+  one-added one f =
+      ap (λ (b : Bool). (w.first, cond b (added (nm ++ take w.size new)) (replaced (om ++ take w.size old) (nm ++ take w.size new))) ∷ []) (sym f) ∙ one-item one
+
+  pub one-replaced : alone w ≡ true → w.fresh ≡ false → (w.first, replaced (om ++ take w.size old) (nm ++ take w.size new)) ∷ [] ≡ items_of w om old nm new
+  unfolding block_change_of
+  one-replaced one f =
+      ap (λ (b : Bool). (w.first, cond b (added (nm ++ take w.size new)) (replaced (om ++ take w.size old) (nm ++ take w.size new))) ∷ []) (sym f) ∙ one-item one
 
   pub all-items : (w.listed ≡ false → w.fresh ≡ true) → nm ≡ live w.version → firsts w new w.count ≡ items_of w om old nm new
   unfolding firsts items_of

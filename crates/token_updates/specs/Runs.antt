@@ -1,11 +1,10 @@
 -- A sum on its way through the block changes of a call. Assumes nothing.
 --   firsts w new n               the first n of several block changes
 --   Hashed k c w new n x y h     a digest x becomes y by them, under a token's keys, and takes h hashes
---   Room walks starts ends ps    scratch space: a table, where 256 walks begin and end, and the places of sums
 --   Made z i run                 where the run has its hash key, it is the token's
 --   Rows w new from n starts     starts has, from 0, the rows of the blocks of n changes, from change `from` on
 --   Placed k w new from n ends   ends has, from 0, the positions that draw these rows
-use Rattle.std.specs.Prelude.{ℕ, ◌+◌, ◌-◌, ◌<◌, true, List, ◌≡◌, length, get_or}
+use Rattle.std.specs.Prelude.{ℕ, ◌+◌, ◌-◌, ◌<◌, List, ◌≡◌, get_or, Some}
 use Rattle.hmac.specs.declared.Key.{Key}
 use Rattle.scheme.specs.Tokens.{BlockChange, row_of, position_of, digest_after}
 use Rattle.scheme.specs.Totals.{token_hashes}
@@ -22,14 +21,8 @@ pub record Hashed (k c : List ℕ) (w : BlockChanges) (new : List ℕ) (n : ℕ)
   pub digest : y ≡ digest_after standard k c w.rows w.positions (firsts w new n) x
   pub hashes : h ≡ token_hashes standard k w.rows w.positions (firsts w new n)
 
-pub record Room (walks starts ends ps : List ℕ) : Type 0 where
-  pub walks_long : length walks ≡ 8192
-  pub starts_long : length starts ≡ 256
-  pub ends_long : length ends ≡ 256
-  pub whole : length ps ≡ 3072
-
 abbrev pub Made : Key → ℕ → Run → Type 0
-Made z i run = run.made ≡ true → run.c ≡ token_key z i
+Made z i run = (c : List ℕ) → run.c ≡ Some c → c ≡ token_key z i
 
 abbrev pub Rows : BlockChanges → List ℕ → ℕ → ℕ → List ℕ → Type 0
 Rows w new from n starts = (e : ℕ) → e < n → get_or starts e 0 ≡ row_of w.rows (number_at w new (from + e)) - 1

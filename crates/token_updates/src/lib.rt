@@ -8,7 +8,7 @@
 
 #![tactic(auto)]
 
-ghost use Rattle.std.specs.Prelude.{◌≡◌, List, true, false, ℕ, ◌+◌, ◌*◌, ◌-◌, ◌≤◌, ◌<◌, length, get_or};
+ghost use Rattle.std.specs.Prelude.{◌≡◌, List, true, false, ℕ, ◌+◌, ◌*◌, ◌-◌, ◌≤◌, ◌<◌, length};
 ghost use Rattle.chacha20.specs.ChaCha20.{key_words};
 ghost use Rattle.permutation.specs.Rounds.{half};
 ghost use Rattle.permutation.specs.Table.{Tabled};
@@ -16,98 +16,99 @@ ghost use Rattle.scheme.specs.Tokens as T;
 ghost use Rattle.scheme.specs.Totals.{token_turns};
 ghost use Rattle.standard.specs.Standard.{standard};
 ghost use Rattle.tokens.specs.Keyed.{token_key, Done};
-ghost use Rattle.hash_queue.specs.Waiting.{flushed, Sound};
-ghost use Rattle.block_changes.specs.BlockChanges.{number_at, items_of, alone, Lent, Several, Fits};
-ghost use Rattle.token_updates.specs.Runs.{firsts, Rows, Hashed, Room, Made, Placed};
+ghost use Rattle.hash_queue.specs.Waiting.{Ready, held};
+ghost use Rattle.block_changes.specs.BlockChanges.{number_at, items_of, alone, Lent};
+ghost use Rattle.token_updates.specs.Runs.{firsts, Rows, Hashed, Made, Placed};
 
 mod loads;
 
-// Writes the rows, from 0, of n added blocks, from change `from` on: one behind the other.
-fn lay_added(
-    changes: block_changes::BlockChanges,
-    new: &[u8],
-    from: u64,
-    n: usize,
-    starts: &mut [u64],
-)
-    requires { Several changes new.now × (changes.listed ≡ false) × (from + n ≤ changes.count) × (1 ≤ n) × (n ≤ length starts.old) }
-    ensures { Rows changes new.now from n starts.new }
+use block_changes::Several;
+use hash_queue::Queue;
+
+// Scratch space for several block changes: a table of the round function, where 256 walks begin and end, and what waits to be hashed.
+#[derive(Clone, Copy)]
+pub struct Scratch {
+    table: [u16; 8192],
+    starts: [u64; 256],
+    ends: [u64; 256],
+    queue: Queue,
+}
+
+impl Scratch {
+    // Scratch space that nothing was done in.
+    pub fn new() -> Scratch {
+        Scratch {
+            table: [0; 8192],
+            starts: [0; 256],
+            ends: [0; 256],
+            queue: Queue::new([0; 32]),
+        }
+    }
+}
+
+// Writes the rows, from 0, of as many added blocks as `starts` has places, from change `from` on: one behind the other.
+fn lay_added(several: &Several, from: u64, starts: &mut [u64])
+    requires { (several.now.changes.listed ≡ false) × (from + length starts.old ≤ several.now.changes.count) × (1 ≤ length starts.old) }
+    ensures { Rows several.now.changes several.now.bytes.now from (length starts.new) starts.new }
 {
-    let m = block_changes::number_of(changes, new, from);
-    let row = tokens::row_of(changes.rows, m);
+    let rows = several.changes.rows;
+    let m = several.number_of(from);
+    let row = tokens::row_of(rows, m);
     let mut at = row.0 - 1;
-    let mut e: usize = 0;
-    while e < n {
-        starts[e] = at;
-        at = cycle_walks::next_row(changes.rows, at);
-        e += 1;
+    for start in starts.iter_mut() {
+        *start = at;
+        at = cycle_walks::next_row(rows, at);
     }
 }
 
-// Writes the rows, from 0, of the blocks of n changes, from change `from` on.
-fn lay_each(
-    changes: block_changes::BlockChanges,
-    new: &[u8],
-    from: u64,
-    n: usize,
-    starts: &mut [u64],
-)
-    requires { Several changes new.now × (from + n ≤ changes.count) × (n ≤ length starts.old) }
-    ensures { Rows changes new.now from n starts.new }
+// Writes the rows, from 0, of the blocks of as many changes, from change `from` on.
+fn lay_each(several: &Several, from: u64, starts: &mut [u64])
+    requires { from + length starts.old ≤ several.now.changes.count }
+    ensures { Rows several.now.changes several.now.bytes.now from (length starts.new) starts.new }
 {
-    let mut e: usize = 0;
-    while e < n {
-        let m = block_changes::number_of(changes, new, from + e as u64);
-        let row = tokens::row_of(changes.rows, m);
-        starts[e] = row.0 - 1;
-        e += 1;
+    for (e, start) in starts.iter_mut().enumerate() {
+        let m = several.number_of(from + e as u64);
+        let row = tokens::row_of(several.changes.rows, m);
+        *start = row.0 - 1;
     }
 }
 
-// Writes where n walks begin: the rows of change `from` and of those behind it, from 0.
-fn lay_rows(
-    changes: block_changes::BlockChanges,
-    new: &[u8],
-    from: u64,
-    n: usize,
-    starts: &mut [u64],
-)
-    requires { Several changes new.now × (from + n ≤ changes.count) × (1 ≤ n) × (n ≤ length starts.old) }
-    ensures { Rows changes new.now from n starts.new }
+// Writes where walks begin: the rows of change `from` and of those behind it, from 0.
+fn lay_rows(several: &Several, from: u64, starts: &mut [u64])
+    requires { (from + length starts.old ≤ several.now.changes.count) × (1 ≤ length starts.old) }
+    ensures { Rows several.now.changes several.now.bytes.now from (length starts.new) starts.new }
 {
-    if changes.listed {
-        lay_each(changes, new, from, n, starts);
+    if several.changes.listed {
+        lay_each(several, from, starts);
         return;
     }
-    lay_added(changes, new, from, n, starts);
+    lay_added(several, from, starts);
 }
 
 // Walks back from the rows of n changes, from change `from` on: writes the positions that draw them, from 0, and answers how many turns that took.
 fn walk_some(
     words: [u32; 8],
     table: &[u16],
-    changes: block_changes::BlockChanges,
+    several: &Several,
     from: u64,
     n: usize,
-    new: &[u8],
-    starts: &mut [u64],
-    ends: &mut [u64],
+    starts: &mut [u64; 256],
+    ends: &mut [u64; 256],
 ) -> u64
-    requires { Several changes new.now × (from + n ≤ changes.count) × (1 ≤ n) × (n ≤ 256) × Tabled words (half changes.rows) table.now × (length starts.old ≡ 256) × (length ends.old ≡ 256) }
+    requires { (from + n ≤ several.now.changes.count) × (1 ≤ n) × (n ≤ 256) × Tabled words (half several.now.changes.rows) table.now }
     ensures upper_bound { result ≤ n * 1048576 }
-    ensures by_index { (k : List ℕ) → words ≡ key_words k → Placed k changes new.now from n ends.new × (token_turns standard k changes.rows (firsts changes new.now (from + n)) ≡ token_turns standard k changes.rows (firsts changes new.now from) + result) }
+    ensures by_index { (k : List ℕ) → words ≡ key_words k → Placed k several.now.changes several.now.bytes.now from n ends.new × (token_turns standard k several.now.changes.rows (firsts several.now.changes several.now.bytes.now (from + n)) ≡ token_turns standard k several.now.changes.rows (firsts several.now.changes several.now.bytes.now from) + result) }
 {
-    lay_rows(changes, new, from, n, starts);
-    cycle_walks::backward_each(words, table, changes.rows, n, starts, ends)
+    let rows = &mut starts[..n];
+    lay_rows(several, from, rows);
+    cycle_walks::backward_each(words, table, several.changes.rows, n, rows, ends)
 }
 
-// A sum on its way through block changes, the hashes that it took, and the token's hash key, which is made when the first drawn block comes.
+// The hashes that block changes took so far, and the token's hash key, which is made when the first drawn block comes.
 #[derive(Clone, Copy)]
 struct Run {
-    sum: hash_queue::Sum,
     hashes: u64,
-    made: bool,
-    c: [u8; 32],
+    c: Option<[u8; 32]>,
 }
 
 // The hash key of a token: the run's, or made now.
@@ -115,99 +116,59 @@ fn key_of(run: Run, z: hmac::Key, i: counts::Token) -> [u8; 32]
     requires { Made z i.0 run }
     ensures { result ≡ token_key z i.0 }
 {
-    if run.made {
-        let c = run.c;
-        return c;
+    match run.c {
+        Some(c) => c,
+        None => tokens::token_key(z, i),
     }
-    tokens::token_key(z, i)
 }
 
-// The run with block change e, whose block lies in the row that position `j0` + 1 draws.
+// Adds block change e to the queue, whose block lies in the row that position `j0` + 1 draws. Returns the run with it.
 fn add_item(
     run: Run,
     z: hmac::Key,
     i: counts::Token,
-    changes: block_changes::BlockChanges,
+    several: &Several,
     e: u64,
     j0: u64,
-    f: hash_queue::Form,
-    new: &[u8],
-    pad: &[u8],
-    p: &mut [u8],
-    at: &mut [usize; 16],
+    queue: &mut Queue,
 ) -> Run
-    requires several { Several changes new.now × (e < changes.count) × (j0 < changes.positions) }
-    requires made { Made z i.0 run × (run.hashes ≤ e * 2) × Fits f changes.version changes.size pad.now p.old × Sound run.sum f new.now at.old }
-    ensures made_2 { Made z i.0 result × (result.hashes ≤ (e + 1) * 2) × Sound result.sum f new.now at.new }
-    ensures by_index { (k x : List ℕ) → j0 + 1 ≡ T.position_of standard k changes.rows (T.row_of changes.rows (number_at changes new.now e)) → Hashed k (token_key z i.0) changes new.now e x (flushed run.sum f new.now at.old p.old) run.hashes → Hashed k (token_key z i.0) changes new.now (e + 1) x (flushed result.sum f new.now at.new p.new) result.hashes }
+    requires several { (e < several.now.changes.count) × (j0 < several.now.changes.positions) }
+    requires made { Made z i.0 run × (run.hashes ≤ e * 2) × Ready queue.old several.now.kind.form several.now.bytes.now }
+    ensures made_2 { Made z i.0 result × (result.hashes ≤ (e + 1) * 2) × Ready queue.new several.now.kind.form several.now.bytes.now }
+    ensures by_index { (k x : List ℕ) → j0 + 1 ≡ T.position_of standard k several.now.changes.rows (T.row_of several.now.changes.rows (number_at several.now.changes several.now.bytes.now e)) → Hashed k (token_key z i.0) several.now.changes several.now.bytes.now e x (held queue.old several.now.kind.form several.now.bytes.now) run.hashes → Hashed k (token_key z i.0) several.now.changes several.now.bytes.now (e + 1) x (held queue.new several.now.kind.form several.now.bytes.now) result.hashes }
 {
+    let rows = several.changes.rows;
     let c = key_of(run, z, i);
-    let m = block_changes::number_of(changes, new, e);
-    let column = tokens::column_of(changes.rows, m);
-    let index = tokens::index_of(changes.rows, column, counts::Position(j0 + 1));
-    let s = run.sum;
-    let sum = block_changes::add_contents(s, c, index, changes, e, f, new, pad, p, at);
-    let hashes = run.hashes + block_changes::hashes_of(changes);
+    let m = several.number_of(e);
+    let column = tokens::column_of(rows, m);
+    let index = tokens::index_of(rows, column, counts::Position(j0 + 1));
+    several.add_contents(queue, c, index, e);
     Run {
-        sum,
-        hashes,
-        made: true,
-        c,
+        hashes: run.hashes + several.hashes_of(),
+        c: Some(c),
     }
 }
 
-// The first of the places from e on where a position, from 0, is drawn, or n where there is none.
-fn next_drawn(positions: u64, ends: &[u64], e: usize, n: usize) -> usize
-    requires { (e ≤ n) × (n ≤ length ends.now) }
-    ensures { (e ≤ result) × (result ≤ n) × ((j : ℕ) → e ≤ j → j < result → positions ≤ get_or ends.now j 0) × (result < n → get_or ends.now result 0 < positions) }
-{
-    let mut j = e;
-    while j < n {
-        if ends[j] < positions {
-            return j;
-        }
-        j += 1;
-    }
-    n
-}
-
-// The run with n block changes, from change `from` on, whose positions are given, from 0.
+// Adds n block changes to the queue, from change `from` on, whose positions are given, from 0. Returns the run with them.
 fn add_items(
     run: Run,
     z: hmac::Key,
     i: counts::Token,
-    changes: block_changes::BlockChanges,
+    several: &Several,
     from: u64,
-    n: usize,
     ends: &[u64],
-    f: hash_queue::Form,
-    new: &[u8],
-    pad: &[u8],
-    p: &mut [u8],
-    at: &mut [usize; 16],
+    queue: &mut Queue,
 ) -> Run
-    requires several { Several changes new.now × (from + n ≤ changes.count) × (n ≤ length ends.now) }
-    requires made { Made z i.0 run × (run.hashes ≤ from * 2) × Fits f changes.version changes.size pad.now p.old × Sound run.sum f new.now at.old }
-    ensures made_2 { Made z i.0 result × (result.hashes ≤ (from + n) * 2) × Sound result.sum f new.now at.new }
-    ensures by_index { (k x : List ℕ) → Placed k changes new.now from n ends.now → Hashed k (token_key z i.0) changes new.now from x (flushed run.sum f new.now at.old p.old) run.hashes → Hashed k (token_key z i.0) changes new.now (from + n) x (flushed result.sum f new.now at.new p.new) result.hashes }
+    requires several { from + length ends.now ≤ several.now.changes.count }
+    requires made { Made z i.0 run × (run.hashes ≤ from * 2) × Ready queue.old several.now.kind.form several.now.bytes.now }
+    ensures made_2 { Made z i.0 result × (result.hashes ≤ (from + length ends.now) * 2) × Ready queue.new several.now.kind.form several.now.bytes.now }
+    ensures by_index { (k x : List ℕ) → Placed k several.now.changes several.now.bytes.now from (length ends.now) ends.now → Hashed k (token_key z i.0) several.now.changes several.now.bytes.now from x (held queue.old several.now.kind.form several.now.bytes.now) run.hashes → Hashed k (token_key z i.0) several.now.changes several.now.bytes.now (from + length ends.now) x (held queue.new several.now.kind.form several.now.bytes.now) result.hashes }
 {
     let mut going = run;
-    let mut e = next_drawn(changes.positions, ends, 0, n);
-    while e < n {
-        going = add_item(
-            going,
-            z,
-            i,
-            changes,
-            from + e as u64,
-            ends[e],
-            f,
-            new,
-            pad,
-            p,
-            at,
-        );
-        e = next_drawn(changes.positions, ends, e + 1, n);
+    for (e, j0) in ends.iter().enumerate() {
+        if *j0 < several.changes.positions {
+            going = add_item(going, z, i, several, from + e as u64, *j0, queue);
+        }
     }
     going
 }
@@ -217,54 +178,38 @@ fn next_of(left: u64) -> u64
     requires { 1 ≤ left }
     ensures { (1 ≤ result) × (result ≤ left) × (result ≤ 256) }
 {
-    if left < 256 {
-        return left;
-    }
-    256
+    left.min(256)
 }
 
-// The digest x after several block changes, under the words of the draw key, and its totals. The table is empty, or has all values of its
-// round function; p is room for what waits to be hashed, cut as f says, and pad its padding.
-fn several_in(
+// The digest x after several block changes, block by block, under the words of the draw key, and its totals. The hash key is made where a block
+// is drawn. The table is empty, or has all values of its round function; the queue starts over.
+fn by_blocks(
     words: [u32; 8],
     table: &[u16],
     z: hmac::Key,
     i: counts::Token,
-    changes: block_changes::BlockChanges,
-    f: hash_queue::Form,
-    new: &[u8],
-    pad: &[u8],
+    several: &Several,
     x: [u8; 32],
-    starts: &mut [u64],
-    ends: &mut [u64],
-    p: &mut [u8],
+    starts: &mut [u64; 256],
+    ends: &mut [u64; 256],
+    queue: &mut Queue,
 ) -> counts::DigestTotals
-    requires { Several changes new.now × Tabled words (half changes.rows) table.now × Fits f changes.version changes.size pad.now p.old × (length starts.old ≡ 256) × (length ends.old ≡ 256) }
-    ensures { (k : List ℕ) → words ≡ key_words k → Done k (token_key z i.0) changes.rows changes.positions (firsts changes new.now changes.count) x result }
+    requires { Tabled words (half several.now.changes.rows) table.now }
+    ensures { (k : List ℕ) → words ≡ key_words k → Done k (token_key z i.0) several.now.changes.rows several.now.changes.positions (firsts several.now.changes several.now.bytes.now several.now.changes.count) x result }
 {
-    let none = [0u8; 32];
-    let mut at = [0usize; 16];
-    let begun = hash_queue::start(x);
-    let mut run = Run {
-        sum: begun,
-        hashes: 0,
-        made: false,
-        c: none,
-    };
+    queue.restart(x);
+    let mut run = Run { hashes: 0, c: None };
     let mut turns: u64 = 0;
-    let mut left = changes.count;
+    let mut left = several.changes.count;
     while 0 < left {
         let n = next_of(left);
-        let from = changes.count - left;
-        let walked = walk_some(words, table, changes, from, n as usize, new, starts, ends);
+        let from = several.changes.count - left;
+        let walked = walk_some(words, table, several, from, n as usize, starts, ends);
         turns += walked;
-        run = add_items(
-            run, z, i, changes, from, n as usize, ends, f, new, pad, p, &mut at,
-        );
+        run = add_items(run, z, i, several, from, &ends[..n as usize], queue);
         left -= n;
     }
-    let sum = run.sum;
-    let digest = hash_queue::settled(sum, f, new, &at, p);
+    let digest = queue.settled(&several.kind, several.bytes);
     counts::DigestTotals {
         digest,
         turns,
@@ -272,82 +217,47 @@ fn several_in(
     }
 }
 
-// The digest x after several block changes, block by block, under the words of the draw key, and its totals. The hash key is made where a block
-// is drawn.
-fn by_blocks(
-    words: [u32; 8],
-    table: &[u16],
-    z: hmac::Key,
-    i: counts::Token,
-    changes: block_changes::BlockChanges,
-    new: &[u8],
-    x: [u8; 32],
-    starts: &mut [u64],
-    ends: &mut [u64],
-    p: &mut [u8],
-) -> counts::DigestTotals
-    requires { Several changes new.now × Tabled words (half changes.rows) table.now × (length starts.old ≡ 256) × (length ends.old ≡ 256) × (length p.old ≡ 3072) }
-    ensures { (k : List ℕ) → words ≡ key_words k → Done k (token_key z i.0) changes.rows changes.positions (firsts changes new.now changes.count) x result }
-{
-    let h = block_changes::head_bytes(changes.version);
-    let padding = sha256::pad(h as u64 + changes.size);
-    let bytes = padding.bytes;
-    let len = padding.len;
-    let f = hash_queue::form_of(h, changes.size as usize, len);
-    several_in(
-        words,
-        table,
-        z,
-        i,
-        changes,
-        f,
-        new,
-        &bytes[..len],
-        x,
-        starts,
-        ends,
-        p,
-    )
-}
-
 // A token's digest x after several block changes, and its totals. Its key k is made once.
-fn several(
+fn after_several(
     w: hmac::Key,
     z: hmac::Key,
     i: counts::Token,
-    changes: block_changes::BlockChanges,
-    new: &[u8],
+    several: &Several,
     x: [u8; 32],
-    walks: &mut [u16],
-    starts: &mut [u64],
-    ends: &mut [u64],
-    p: &mut [u8],
+    scratch: &mut Scratch,
 ) -> counts::DigestTotals
-    requires { Several changes new.now × Room walks.old starts.old ends.old p.old }
-    ensures { Done (token_key w i.0) (token_key z i.0) changes.rows changes.positions (firsts changes new.now changes.count) x result }
+    ensures { Done (token_key w i.0) (token_key z i.0) several.now.changes.rows several.now.changes.positions (firsts several.now.changes several.now.bytes.now several.now.changes.count) x result }
 {
     let k = tokens::token_key(w, i);
     let words = chacha20::key_words(&k);
-    let entries = permutation::tabulated(words, changes.rows, changes.count, walks);
+    let changes = several.changes;
+    let entries = permutation::tabulated(words, changes.rows, changes.count, &mut scratch.table);
     if loads::dense(changes, entries) {
-        return loads::by_positions(k, &walks[..entries], z, i, changes, new, x, p);
+        return loads::by_positions(
+            k,
+            &scratch.table[..entries],
+            z,
+            i,
+            several,
+            x,
+            &mut scratch.queue,
+        );
     }
     by_blocks(
         words,
-        &walks[..entries],
+        &scratch.table[..entries],
         z,
         i,
-        changes,
-        new,
+        several,
         x,
-        starts,
-        ends,
-        p,
+        &mut scratch.starts,
+        &mut scratch.ends,
+        &mut scratch.queue,
     )
 }
 
 // A token's digest x after all block changes, and its totals, under the keys W and Z prepared. `old_mark` and `new_mark` are the marks of a change that comes alone.
-// The scratch space, a table, where walks begin and end, and what waits to be hashed, is read and written only where there are several.
+// The scratch space is read and written only where there are several.
 pub fn updated(
     w: hmac::Key,
     z: hmac::Key,
@@ -358,31 +268,37 @@ pub fn updated(
     new_mark: &[u8],
     new: &[u8],
     x: [u8; 32],
-    walks: &mut [u16],
-    starts: &mut [u64],
-    ends: &mut [u64],
-    p: &mut [u8],
+    scratch: &mut Scratch,
 ) -> counts::DigestTotals
-    requires { Lent changes old_mark.now old.now new_mark.now new.now × (alone changes ≡ false → Room walks.old starts.old ends.old p.old) }
+    requires { Lent changes old_mark.now old.now new_mark.now new.now }
     ensures { Done (token_key w i.0) (token_key z i.0) changes.rows changes.positions (items_of changes old_mark.now old.now new_mark.now new.now) x result }
 {
     let one = block_changes::alone(changes);
     if !one {
-        return several(w, z, i, changes, new, x, walks, starts, ends, p);
+        let several = Several::new(changes, new);
+        return after_several(w, z, i, &several, x, scratch);
     }
     let size = changes.size as usize;
     let m = counts::Block(changes.first);
+    let after = tokens::Content {
+        mark: new_mark,
+        block: &new[..size],
+    };
+    if changes.fresh {
+        return tokens::changed(w, z, changes.rows, changes.positions, m, None, after, i, x);
+    }
+    let before = tokens::Content {
+        mark: old_mark,
+        block: &old[..size],
+    };
     tokens::changed(
         w,
         z,
         changes.rows,
         changes.positions,
         m,
-        changes.fresh,
-        old_mark,
-        &old[..size],
-        new_mark,
-        &new[..size],
+        Some(before),
+        after,
         i,
         x,
     )

@@ -10,13 +10,13 @@ fn lay(p: &mut [u8], a: usize, n: usize, m: &[u8], bits: u64)
     let end = [0x80u8; 1];
     octets::copy(p, a, m);
     octets::copy(p, a + m.len(), &end);
-    octets::put_be8(p, a + n - 8, bits);
+    octets::put_be::<8>(p, a + n - 8, bits);
 }
 
 // A line with the four bytes of a word.
 fn word_line<R: Print>(rt: &R, name: &[u8], x: u32) -> io::Result<()> {
     let mut s = [0u8; 4];
-    octets::put_le4(&mut s, 0, x as u64);
+    octets::put_le::<4>(&mut s, 0, u64::from(x));
     crate::print::line(rt, name, &s)
 }
 

@@ -1,14 +1,17 @@
 -- Not permitted, and permitted, as RoleLaws has them.
-use mathlib.Core.Path.{sym, ◌∙◌}
+use mathlib.Core.Path.{sym, ap, ◌∙◌}
+use Rattle.counts.proofs.RefusedLaws.{err-on}
 use Rattle.scheme.proofs.laws.RoleLaws.{permitted, not-permitted}
+use Rattle.judging.specs.Causes.{cause_in}
 use Rattle.access.proofs.cause.Goals as goal
 
-pub returns-then-not-permits : goal.returns-then-not-permits
-returns-then-not-permits c =
-    let no = sym c.permits.ensures ∙ c.if-not-permits.true in
-    sym (not-permitted _ _ _ _ no)
+pub returns-in_err-check : goal.returns-in_err-check
+returns-in_err-check c =
+    let e = c.in_err-check.field-0.0 in
+    let no = c.in_err-check.ensures.1 in
+    ap cause_in (err-on _ e c.from_residual.ensures) ∙ c.in_err-check.ensures.0 ∙ sym (not-permitted _ _ _ _ no)
 
 pub returns : goal.returns
 returns c =
-    let may = sym c.permits.ensures ∙ c.if-not-permits.false in
+    let may = c.in_ok-check.ensures in
     c.cause.ensures ∙ sym (permitted _ _ _ _ may)

@@ -1,15 +1,16 @@
--- Not permitted, and permitted, as RoleLaws has them, of what the kind does.
-use mathlib.Core.Path.{sym, ◌∙◌, ap}
-use Rattle.scheme.specs.Roles.{permits}
+-- Not permitted, and permitted, as RoleLaws has them, of what the change does.
+use mathlib.Core.Path.{sym, ap, ◌∙◌}
+use Rattle.counts.proofs.RefusedLaws.{passed-on}
 use Rattle.scheme.proofs.laws.RoleLaws.{permitted, not-permitted}
+use Rattle.scheme.specs.Roles.{permits}
 use Rattle.access.proofs.change.Goals as goal
 
-pub returns-then-not-permits : goal.returns-then-not-permits
-returns-then-not-permits c =
-    let a = c.args in
-    let told = c.permission_for-permission.ensures a.m a.old.now a.mark.now a.new.now in
-    let no = sym (ap (permits a.role) told) ∙ sym c.permits.ensures ∙ c.if-not-permits.true in record {
-      value = sym (not-permitted _ _ _ _ no);
+pub returns-in_err-check : goal.returns-in_err-check
+returns-in_err-check c =
+    let e = c.in_err-check.field-0.0 in
+    let no = sym (ap (permits c.args.role) c.from.ensures) ∙ c.in_err-check.ensures.1 in
+    record {
+      value = passed-on _ e c.from_residual.ensures ∙ c.in_err-check.ensures.0 ∙ sym (not-permitted _ _ _ _ no);
       card_after = sym (not-permitted _ _ _ _ no);
       table_after = sym (not-permitted _ _ _ _ no);
       totals_after = sym (not-permitted _ _ _ _ no);
@@ -17,11 +18,10 @@ returns-then-not-permits c =
 
 pub returns : goal.returns
 returns c =
-    let a = c.args in
-    let told = c.permission_for-permission.ensures a.m a.old.now a.mark.now a.new.now in
-    let may = sym (ap (permits a.role) told) ∙ sym c.permits.ensures ∙ c.if-not-permits.false in record {
-      value = c.change.ensures.value ∙ sym (permitted _ _ _ _ may);
-      card_after = c.change.ensures.card_after ∙ sym (permitted _ _ _ _ may);
-      table_after = c.change.ensures.table_after ∙ sym (permitted _ _ _ _ may);
-      totals_after = c.change.ensures.totals_after ∙ sym (permitted _ _ _ _ may);
+    let may = sym (ap (permits c.args.role) c.from.ensures) ∙ c.in_ok-check.ensures in
+    record {
+      value = c.make.ensures.value ∙ sym (permitted _ _ _ _ may);
+      card_after = c.make.ensures.card_after ∙ sym (permitted _ _ _ _ may);
+      table_after = c.make.ensures.table_after ∙ sym (permitted _ _ _ _ may);
+      totals_after = c.make.ensures.totals_after ∙ sym (permitted _ _ _ _ may);
     }

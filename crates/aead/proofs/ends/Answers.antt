@@ -5,5 +5,5 @@ use Rattle.aead.proofs.ends.Goals as goal
 
 pub returns : goal.returns
 returns c =
-    let le8 = c.put_le8 in
-    ends_is le8.new.s c.put_le8-2.new.s _ _ le8.ensures c.put_le8-2.ensures
+    let le8 = c.put_le in
+    ends_is le8.new.s c.put_le-2.new.s _ _ le8.ensures c.put_le-2.ensures

@@ -5,4 +5,4 @@ use Rattle.aead.proofs.seal_at.Goals as goal
 
 pub returns : goal.returns
 returns c =
-    sealed-at _ _ _ c.args.table.now _ c.args.at c.requires.1 c.seal_record.ensures
+    sealed-at _ _ _ c.args.table.now _ c.args.at c.requires c.seal_record.ensures

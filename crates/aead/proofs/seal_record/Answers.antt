@@ -7,4 +7,4 @@ use Rattle.aead.proofs.seal_record.Goals as goal
 pub returns : goal.returns
 returns c =
     let seal = c.seal-t in
-    record-sealed _ _ _ c.args.r.now seal.new.text _ _ c.requires.1 (search rules) seal.ensures c.copy.ensures
+    record-sealed _ _ _ c.args.r.now seal.new.text _ _ c.requires (search rules) seal.ensures c.copy.ensures

@@ -1,57 +1,57 @@
 -- The code by ask-early and ask-last; a refusal leaves card, second table and totals by refusal-keeps; what is written is the scheme's by ask-writes.
 use native.Mathlib.Omega.{arith}
 use Prim.Native.Nat.{ℕ}
-use mathlib.Core.Path.{◌≡◌, sym, subst, ◌∙◌}
+use mathlib.Core.Path.{◌≡◌, refl, sym, subst, ◌∙◌}
 use mathlib.Core.List.{List}
+use Rattle.counts.proofs.RefusedLaws.{refuses, passed-on}
 use Rattle.scheme.specs.Asks.{ask_code}
 use Rattle.standard.specs.Standard.{standard}
 use Rattle.cards.proofs.FaultLaws.{card-read}
 use Rattle.reseals.specs.Resealed.{Opens}
-use Rattle.changes.specs.Kinds.{change_of}
+use Rattle.changes.specs.Kinds.{change_of, table_fault}
 use Rattle.changes.proofs.LateLaws.{Held, late-held, fault-keyed, opened, taken}
 use Rattle.asks.proofs.AskLaws.{Asked, asked-has, ask-early, ask-last, refusal-keeps, copied, ask-writes, asked-room}
-use Rattle.asks.proofs.ask.Goals.{After-copy, After-read_card-c, After-table_code-seven}
+use Rattle.asks.proofs.ask.Goals.{After-copy, After-read_card-c, After-file_keys-keys}
 use Rattle.asks.proofs.ask.Goals as goal
 
 -- what an ask has whose checks pass
 passes : (c : After-read_card-c)
-    → let a = c.args in Asked a.master.now a.card.now a.table.now a.second.now (change_of a.kind a.m a.old.now a.mark.now a.new.now) a.totals.now
+    → let a = c.args in Asked a.master.now a.card.now a.table.now a.second.now (change_of a.change) a.totals.now
 passes c =
     let a = c.args in
-    let change = change_of a.kind a.m a.old.now a.mark.now a.new.now in
-    asked-has a.master.now a.card.now a.table.now a.second.now change a.totals.now c.check-code.result c.check-code.ensures c.if-code-ne0.false
+    let change = change_of a.change in
+    asked-has a.master.now a.card.now a.table.now a.second.now change a.totals.now 0 c.in_ok-check.ensures refl
 
 -- and what the card has that was read
-holds : (c : After-read_card-c) → let a = c.args in Held c.read_card-c.result a.table.now (change_of a.kind a.m a.old.now a.mark.now a.new.now)
+holds : (c : After-read_card-c) → let a = c.args in Held c.read_card-c.result a.table.now (change_of a.change)
 holds c = late-held c.read_card-c.result c.read_card-c.ensures (passes c).early
 
--- the code, once the table's is known
-coded : (c : After-table_code-seven)
-    → let a = c.args in
-    c.table_code-seven.result ≡ ask_code standard a.master.now a.card.now a.table.now a.second.now (change_of a.kind a.m a.old.now a.mark.now a.new.now) a.totals.now
-coded c =
+-- the code is the table's
+coded : (c : After-file_keys-keys) (n : ℕ) → n ≡ table_fault c.file_keys-keys.result.k c.read_card-c.result c.args.table.now
+    → let a = c.args in n ≡ ask_code standard a.master.now a.card.now a.table.now a.second.now (change_of a.change) a.totals.now
+coded c n e =
     let keys = c.file_keys-keys in
     let a = c.args in
-    let change = change_of a.kind a.m a.old.now a.mark.now a.new.now in
-    let checked = c.check-code in
-    ask-last a.master.now a.card.now a.table.now a.second.now change a.totals.now checked.result c.table_code-seven.result checked.ensures c.if-code-ne0.false
-    (fault-keyed a.master.now a.card.now a.table.now keys.result c.read_card-c.result c.table_code-seven.result keys.ensures c.read_card-c.ensures c.table_code-seven.ensures)
+    ask-last a.master.now a.card.now a.table.now a.second.now (change_of a.change) a.totals.now 0 n c.in_ok-check.ensures refl
+    (fault-keyed a.master.now a.card.now a.table.now keys.result c.read_card-c.result n keys.ensures c.read_card-c.ensures e)
 
 -- the second table, once the standing one is copied
 doubled : (c : After-copy) → let a = c.args in c.copy.new.dst ≡ a.table.now
 doubled c =
     let a = c.args in
-    let change = change_of a.kind a.m a.old.now a.mark.now a.new.now in
-    copied a.master.now a.card.now a.table.now a.second.now change a.totals.now _ (asked-has a.master.now a.card.now a.table.now a.second.now change a.totals.now c.check-code.result c.check-code.ensures c.if-code-ne0.false) c.copy.ensures
+    let change = change_of a.change in
+    copied a.master.now a.card.now a.table.now a.second.now change a.totals.now _ (asked-has a.master.now a.card.now a.table.now a.second.now change a.totals.now 0 c.in_ok-check.ensures refl) c.copy.ensures
 
-pub returns-then-code-ne0 : goal.returns-then-code-ne0
-returns-then-code-ne0 c =
+pub returns-in_err-check : goal.returns-in_err-check
+returns-in_err-check c =
     let a = c.args in
-    let change = change_of a.kind a.m a.old.now a.mark.now a.new.now in
-    let checked = c.check-code in
+    let change = change_of a.change in
+    let refused = c.in_err-check in
+    let s = refuses refused.field-0.0 in
     let whole =
-    refusal-keeps a.master.now a.card.now a.table.now a.second.now change a.totals.now checked.result (ask-early a.master.now a.card.now a.table.now a.second.now change a.totals.now checked.result checked.ensures c.if-code-ne0.true) c.if-code-ne0.true in record {
-      value = whole.0;
+    refusal-keeps a.master.now a.card.now a.table.now a.second.now change a.totals.now _
+    (ask-early a.master.now a.card.now a.table.now a.second.now change a.totals.now _ refused.ensures s) s in record {
+      value = passed-on _ _ c.from_residual.ensures ∙ whole.0;
       card_after = whole.1.0;
       second_after = whole.1.1.0;
       totals_after = whole.1.1.1;
@@ -60,25 +60,24 @@ returns-then-code-ne0 c =
 pub read_card-c-requires : goal.read_card-c-requires
 read_card-c-requires c =
     let a = c.args in
-    let change = change_of a.kind a.m a.old.now a.mark.now a.new.now in
-    let checked = c.check-code in
-    card-read a.card.now (asked-has a.master.now a.card.now a.table.now a.second.now change a.totals.now checked.result checked.ensures c.if-code-ne0.false).early.fault
+    card-read a.card.now (asked-has a.master.now a.card.now a.table.now a.second.now (change_of a.change) a.totals.now 0 c.in_ok-check.ensures refl).early.fault
 
 pub file_keys-keys-requires : goal.file_keys-keys-requires
 file_keys-keys-requires c = (passes (goal.at.file_keys-keys-requires c).After-read_card-c).early.key32
 
-pub table_code-seven-requires : goal.table_code-seven-requires
-table_code-seven-requires c =
-    let h = holds (goal.at.table_code-seven-requires c).After-read_card-c in
+pub check_table-requires : goal.check_table-requires
+check_table-requires c =
+    let h = holds (goal.at.check_table-requires c).After-read_card-c in
     (h.limits.tmost, h.limits.next1, h.limits.nextmost, h.whole)
 
-pub returns-then-seven-ne0 : goal.returns-then-seven-ne0
-returns-then-seven-ne0 c =
+pub returns-in_err-check_table : goal.returns-in_err-check_table
+returns-in_err-check_table c =
     let a = c.args in
-    let change = change_of a.kind a.m a.old.now a.mark.now a.new.now in
+    let refused = c.in_err-check_table in
     let whole =
-    refusal-keeps a.master.now a.card.now a.table.now a.second.now change a.totals.now c.table_code-seven.result (coded (goal.at.returns-then-seven-ne0 c).After-table_code-seven) c.if-seven-ne0.true in record {
-      value = whole.0;
+    refusal-keeps a.master.now a.card.now a.table.now a.second.now (change_of a.change) a.totals.now _
+    (coded (goal.at.returns-in_err-check_table c).After-file_keys-keys _ refused.ensures) (refuses refused.field-0.0) in record {
+      value = passed-on _ _ c.from_residual-in_err-check_table.ensures ∙ whole.0;
       card_after = whole.1.0;
       second_after = whole.1.1.0;
       totals_after = whole.1.1.1;
@@ -95,7 +94,7 @@ reseal_for-blocks-requires c =
     let r = c.read_card-c.result in
     let key = c.file_keys-keys.result.k in (
       subst (λ (xs : List ℕ). Opens key r xs) (sym (doubled (goal.at.reseal_for-blocks-requires c).After-copy))
-          (opened key r c.args.table.now h (sym c.table_code-seven.ensures ∙ c.if-seven-ne0.false)),
+          (opened key r c.args.table.now h (sym c.in_ok-check_table.ensures)),
       taken r h,
       (passes (goal.at.reseal_for-blocks-requires c).After-read_card-c).early.counted,
     )
@@ -106,7 +105,7 @@ asked-requires c = (holds (goal.at.asked-requires c).After-read_card-c).room
 pub write_card-requires : goal.write_card-requires
 write_card-requires c =
     let a = c.args in
-    let change = change_of a.kind a.m a.old.now a.mark.now a.new.now in
+    let change = change_of a.change in
     asked-room a.master.now a.card.now a.table.now a.second.now change a.totals.now c.read_card-c.result c.asked.result c.reseal_for-blocks.result c.read_card-c.ensures
     (passes (goal.at.write_card-requires c).After-read_card-c).early.fault c.asked.ensures
 
@@ -116,10 +115,10 @@ returns c =
     let sealed = c.reseal_for-blocks in
     let keys = c.file_keys-keys in
     let a = c.args in
-    let change = change_of a.kind a.m a.old.now a.mark.now a.new.now in
+    let change = change_of a.change in
     let whole =
     ask-writes a.master.now a.card.now a.table.now a.second.now change a.totals.now c.read_card-c.result asked.result sealed.result _ _ _ _ c.read_card-c.ensures
-    (sym c.if-seven-ne0.false ∙ coded (goal.at.returns c).After-table_code-seven) c.write_card.ensures asked.ensures sealed.ensures.value (doubled (goal.at.returns c).After-copy)
+    (coded (goal.at.returns c).After-file_keys-keys _ c.in_ok-check_table.ensures) c.write_card.ensures asked.ensures sealed.ensures.value (doubled (goal.at.returns c).After-copy)
     (sealed.ensures.by_index a.master.now keys.ensures) (sealed.ensures.by_index_2 a.master.now keys.ensures) in record {
       value = whole.0;
       card_after = whole.1.0;

@@ -5,6 +5,7 @@ use mathlib.Core.Path.{◌≡◌, refl, sym, ◌∙◌}
 use mathlib.Core.Bool.{true}
 use borrow.Author.Tests.{eq-eqb, ne_eqb}
 use lib.ListN.{length}
+use Rattle.counts.proofs.RefusedLaws.{refuses, passed-on}
 use Rattle.scheme.proofs.laws.LimitLaws.{Limits}
 use Rattle.cards.proofs.FaultLaws.{head_read, card-of, card-held}
 use Rattle.changes.specs.Kinds.{change_of}
@@ -18,38 +19,39 @@ limits : (c : After-card_fits-fits) → c.card_fits-fits.result ≡ true
 limits c f =
     let card = c.args.card.now in
     card-held card c.read_card-c.result c.read_card-c.ensures
-    (sym (card-of card c.check_head-fault.result c.check_head-fault.ensures c.read_card-c.result c.if-fault-ne0.false c.read_card-c.ensures (sym c.card_fits-fits.ensures ∙ f)))
+    (sym (card-of card 0 c.in_ok-check_head.ensures c.read_card-c.result refl c.read_card-c.ensures (sym c.card_fits-fits.ensures ∙ f)))
 
 pub returns-then-not-lent : goal.returns-then-not-lent
 returns-then-not-lent c =
     let a = c.args in
-    let change = change_of a.kind a.m a.old.now a.mark.now a.new.now in
+    let change = change_of a.change in
     check-short a.master.now a.card.now a.table.now a.second.now change a.totals.now (sym c.lent_fits-lent.ensures ∙ c.if-not-lent.true)
 
-pub returns-then-fault-ne0 : goal.returns-then-fault-ne0
-returns-then-fault-ne0 c =
+pub returns-in_err-check_head : goal.returns-in_err-check_head
+returns-in_err-check_head c =
     let a = c.args in
-    let change = change_of a.kind a.m a.old.now a.mark.now a.new.now in
-    check-refused a.master.now a.card.now a.table.now a.second.now change a.totals.now c.check_head-fault.result (sym c.lent_fits-lent.ensures ∙ c.if-not-lent.false)
-    c.check_head-fault.ensures c.if-fault-ne0.true
+    let refused = c.in_err-check_head in
+    passed-on _ _ c.from_residual.ensures
+    ∙ check-refused a.master.now a.card.now a.table.now a.second.now (change_of a.change) a.totals.now _ (sym c.lent_fits-lent.ensures ∙ c.if-not-lent.false)
+    refused.ensures (refuses refused.field-0.0)
 
 pub read_card-c-requires : goal.read_card-c-requires
-read_card-c-requires c = head_read c.args.card.now (sym c.check_head-fault.ensures ∙ c.if-fault-ne0.false)
+read_card-c-requires c = head_read c.args.card.now (sym c.in_ok-check_head.ensures)
 
 pub returns-then-c-ne3 : goal.returns-then-c-ne3
 returns-then-c-ne3 c =
     let a = c.args in
-    let change = change_of a.kind a.m a.old.now a.mark.now a.new.now in
-    check-of a.master.now a.card.now a.table.now a.second.now change a.totals.now c.check_head-fault.result (sym c.lent_fits-lent.ensures ∙ c.if-not-lent.false) c.check_head-fault.ensures
-    c.read_card-c.result c.if-fault-ne0.false c.read_card-c.ensures
+    let change = change_of a.change in
+    check-of a.master.now a.card.now a.table.now a.second.now change a.totals.now 0 (sym c.lent_fits-lent.ensures ∙ c.if-not-lent.false) c.in_ok-check_head.ensures
+    c.read_card-c.result refl c.read_card-c.ensures
     (ne_eqb c.read_card-c.result.version 3 c.if-c-ne3.true) refl refl refl refl
 
 pub returns-then-not-fits : goal.returns-then-not-fits
 returns-then-not-fits c =
     let a = c.args in
-    let change = change_of a.kind a.m a.old.now a.mark.now a.new.now in
-    check-of a.master.now a.card.now a.table.now a.second.now change a.totals.now c.check_head-fault.result (sym c.lent_fits-lent.ensures ∙ c.if-not-lent.false) c.check_head-fault.ensures
-    c.read_card-c.result c.if-fault-ne0.false c.read_card-c.ensures
+    let change = change_of a.change in
+    check-of a.master.now a.card.now a.table.now a.second.now change a.totals.now 0 (sym c.lent_fits-lent.ensures ∙ c.if-not-lent.false) c.in_ok-check_head.ensures
+    c.read_card-c.result refl c.read_card-c.ensures
     (eq-eqb c.read_card-c.result.version 3 c.if-c-ne3.false) c.card_fits-fits.ensures (c.if-not-fits.true) refl refl
 
 pub overflow_mul-c : goal.overflow_mul-c
@@ -60,9 +62,9 @@ overflow_mul-c c =
 pub returns-then-second-c : goal.returns-then-second-c
 returns-then-second-c c =
     let a = c.args in
-    let change = change_of a.kind a.m a.old.now a.mark.now a.new.now in
-    check-of a.master.now a.card.now a.table.now a.second.now change a.totals.now c.check_head-fault.result (sym c.lent_fits-lent.ensures ∙ c.if-not-lent.false) c.check_head-fault.ensures
-    c.read_card-c.result c.if-fault-ne0.false c.read_card-c.ensures
+    let change = change_of a.change in
+    check-of a.master.now a.card.now a.table.now a.second.now change a.totals.now 0 (sym c.lent_fits-lent.ensures ∙ c.if-not-lent.false) c.in_ok-check_head.ensures
+    c.read_card-c.result refl c.read_card-c.ensures
     (eq-eqb c.read_card-c.result.version 3 c.if-c-ne3.false) c.card_fits-fits.ensures (c.if-not-fits.false)
     (ne_eqb (length a.second.now) (c.read_card-c.result.tokens * 63) c.if-second-c.true) refl
 
@@ -74,8 +76,8 @@ late-requires c =
 pub returns : goal.returns
 returns c =
     let a = c.args in
-    let change = change_of a.kind a.m a.old.now a.mark.now a.new.now in
-    check-of a.master.now a.card.now a.table.now a.second.now change a.totals.now c.check_head-fault.result (sym c.lent_fits-lent.ensures ∙ c.if-not-lent.false) c.check_head-fault.ensures
-    c.read_card-c.result c.if-fault-ne0.false c.read_card-c.ensures
+    let change = change_of a.change in
+    check-of a.master.now a.card.now a.table.now a.second.now change a.totals.now 0 (sym c.lent_fits-lent.ensures ∙ c.if-not-lent.false) c.in_ok-check_head.ensures
+    c.read_card-c.result refl c.read_card-c.ensures
     (eq-eqb c.read_card-c.result.version 3 (omega arith)) c.card_fits-fits.ensures (c.if-not-fits.false)
     (eq-eqb (length a.second.now) (c.read_card-c.result.tokens * 63) c.if-second-c.false) c.late.ensures

@@ -1,5 +1,6 @@
 -- A refusal leaves the card; what is written is the scheme's by settled.
-use mathlib.Core.Path.{sym, ◌∙◌}
+use mathlib.Core.Path.{refl, ◌∙◌}
+use Rattle.counts.proofs.RefusedLaws.{refuses, passed-on}
 use Rattle.scheme.specs.Changes.{dropped_card}
 use Rattle.scheme.specs.Asks.{drop_card}
 use Rattle.scheme.proofs.laws.CheckLaws.{refusal-kept}
@@ -7,29 +8,27 @@ use Rattle.cards.proofs.FaultLaws.{card-read}
 use Rattle.asks.proofs.SettleLaws.{settle-fine, settled, dropped-room}
 use Rattle.asks.proofs.drop.Goals as goal
 
-pub returns-then-code-ne0 : goal.returns-then-code-ne0
+pub returns-in_err-check_pending : goal.returns-in_err-check_pending
 unfolding drop_card
-returns-then-code-ne0 c =
-    let code = c.settle_code-code in record {
-      value = code.ensures;
-      card_after = refusal-kept _ _ c.args.card.now code.result code.ensures c.if-code-ne0.true;
+returns-in_err-check_pending c =
+    let refused = c.in_err-check_pending in record {
+      value = passed-on _ _ c.from_residual.ensures ∙ refused.ensures;
+      card_after = refusal-kept _ _ c.args.card.now _ refused.ensures (refuses refused.field-0.0);
     }
 
 pub read_card-c-requires : goal.read_card-c-requires
-read_card-c-requires c = card-read c.args.card.now (settle-fine c.args.card.now c.settle_code-code.result c.settle_code-code.ensures c.if-code-ne0.false)
+read_card-c-requires c = card-read c.args.card.now (settle-fine c.args.card.now 0 c.in_ok-check_pending.ensures refl)
 
 pub write_card-requires : goal.write_card-requires
 write_card-requires c =
-    let code = c.settle_code-code in
     let read = c.read_card-c in
-    dropped-room c.args.card.now code.result code.ensures c.if-code-ne0.false read.result c.dropped.result read.ensures c.dropped.ensures
+    dropped-room c.args.card.now 0 c.in_ok-check_pending.ensures refl read.result c.dropped.result read.ensures c.dropped.ensures
 
 pub returns : goal.returns
 unfolding drop_card
 returns c =
-    let code = c.settle_code-code in
     let read = c.read_card-c in record {
-      value = sym c.if-code-ne0.false ∙ code.ensures;
-      card_after = settled c.args.card.now code.result code.ensures c.if-code-ne0.false read.result c.dropped.result read.ensures dropped_card _ c.dropped.ensures
+      value = c.in_ok-check_pending.ensures;
+      card_after = settled c.args.card.now 0 c.in_ok-check_pending.ensures refl read.result c.dropped.result read.ensures dropped_card _ c.dropped.ensures
           c.write_card.ensures;
     }

@@ -18,20 +18,6 @@ zeros-long n h = ap length (take-replicate n 4096 0 h) ∙ length-replicate n 0
 mark-few : (n : ℕ) (xs : List ℕ) → length xs ≡ 1 → n ≤ 1 → length (take n xs) ≤ 1
 mark-few n xs l h = omega (arith, length-take-le n xs (omega arith))
 
-pub slice_bounds-block_hash-end : goal.slice_bounds-block_hash-end
-slice_bounds-block_hash-end c =
-    let counted = c.marks_in-k in
-    sym (length-take-le counted.result _ counted.ensures.1)
-
-pub slice_bounds-block_hash-end-2 : goal.slice_bounds-block_hash-end-2
-slice_bounds-block_hash-end-2 c =
-    sym (zeros-long c.args.size c.requires)
-
-pub block_hash-requires : goal.block_hash-requires
-block_hash-requires c =
-    let counted = c.marks_in-k in
-    (mark-few counted.result _ refl counted.ensures.1, omega (arith, zeros-long c.args.size c.requires, c.requires))
-
 pub returns : goal.returns
 returns c =
     let counted = c.marks_in-k in

@@ -22,8 +22,8 @@ returns c =
     opened (length xs) 11 (be 2 (card_length k.version) ++ (k.version ∷ []) ++ k.id) xs refl (front_long (card_length k.version) k.version k.id id8)
     (c.put_front.ensures ∙ ap (λ (n : ℕ). put 0 (be 2 n ++ (k.version ∷ []) ++ k.id) xs) c.card_length-long.ensures.0) in
     let s₂ = shape k.block_bytes k.rows k.positions s₁ (le-leb 19 (length xs) (omega (arith, c.requires.0))) c.put_shape.ensures in
-    let s₃ = number 4 k.tokens s₂ (le-leb 23 (length xs) (omega (arith, c.requires.0))) c.put_be4.ensures in
-    let s₄ = number 4 k.blocks s₃ (le-leb 27 (length xs) (omega (arith, c.requires.0))) c.put_be4-2.ensures in
-    let s₅ = number 8 k.counter s₄ (le-leb 35 (length xs) (omega (arith, c.requires.0))) c.put_be8.ensures in
-    let s₆ = number 4 k.next s₅ (le-leb 39 (length xs) (omega (arith, c.requires.0))) c.put_be4-3.ensures in
-    (number 4 k.open_token s₆ (le-leb 43 (length xs) c.requires.0) c.put_be4-4.ensures).stands
+    let s₃ = number 4 k.tokens s₂ (le-leb 23 (length xs) (omega (arith, c.requires.0))) c.put_be.ensures in
+    let s₄ = number 4 k.blocks s₃ (le-leb 27 (length xs) (omega (arith, c.requires.0))) c.put_be-2.ensures in
+    let s₅ = number 8 k.counter s₄ (le-leb 35 (length xs) (omega (arith, c.requires.0))) c.put_be-3.ensures in
+    let s₆ = number 4 k.next s₅ (le-leb 39 (length xs) (omega (arith, c.requires.0))) c.put_be-4.ensures in
+    (number 4 k.open_token s₆ (le-leb 43 (length xs) c.requires.0) c.put_be-5.ensures).stands

@@ -4,21 +4,21 @@ use mathlib.Core.Path.{◌∙◌}
 use Rattle.cards.proofs.CardLaws.{cond-three, untold}
 use Rattle.cards.proofs.read_asks.Goals as goal
 
-pub be8-requires : goal.be8-requires
-be8-requires c = omega (arith, c.requires c.if-version-eq3.true)
+pub be-requires : goal.be-requires
+be-requires c = omega (arith, c.requires c.if-version-eq3.true)
 
-pub be8-requires-then-version-eq3 : goal.be8-requires-then-version-eq3
-be8-requires-then-version-eq3 c = omega (arith, c.requires c.if-version-eq3.true)
+pub be-requires-then-version-eq3 : goal.be-requires-then-version-eq3
+be-requires-then-version-eq3 c = omega (arith, c.requires c.if-version-eq3.true)
 
-pub be4-requires : goal.be4-requires
-be4-requires c = omega (arith, c.requires c.if-version-eq3.true)
+pub be-requires-then-version-eq3-2 : goal.be-requires-then-version-eq3-2
+be-requires-then-version-eq3-2 c = omega (arith, c.requires c.if-version-eq3.true)
 
 pub returns-then-version-eq3 : goal.returns-then-version-eq3
 returns-then-version-eq3 c =
     let a = c.args in
     let three = c.if-version-eq3.true in record {
-      last_value = c.be8.ensures ∙ cond-three a.version _ a.counter three;
-      pending_value = (c.be8-then-version-eq3.ensures ∙ cond-three a.version _ 0 three, c.be4.ensures ∙ cond-three a.version _ 0 three);
+      last_value = c.be.ensures.0 ∙ cond-three a.version _ a.counter three;
+      pending_value = (c.be-then-version-eq3.ensures.0 ∙ cond-three a.version _ 0 three, c.be-then-version-eq3-2.ensures.0 ∙ cond-three a.version _ 0 three);
     }
 
 pub returns : goal.returns

@@ -10,5 +10,5 @@ read_asks-asks-requires c = λ three. c.requires.1 (sym c.version_in-version.ens
 pub returns : goal.returns
 unfolding card_of
 returns c =
-    card-is c.args.s.now c.version_in-version.ensures c.bytes8.ensures c.be2.ensures.0 c.be4.ensures c.be2-2.ensures.0
-    c.be4-2.ensures c.be4-3.ensures c.be8-counter.ensures c.be4-4.ensures c.be4-5.ensures c.read_asks-asks.ensures.last_value c.read_asks-asks.ensures.pending_value.0 c.read_asks-asks.ensures.pending_value.1
+    card-is c.args.s.now c.version_in-version.ensures c.bytes.ensures c.be.ensures.0 c.be-2.ensures.0 c.be-3.ensures.0
+    c.be-4.ensures.0 c.be-5.ensures.0 c.be-counter.ensures.0 c.be-6.ensures.0 c.be-7.ensures.0 c.read_asks-asks.ensures.last_value c.read_asks-asks.ensures.pending_value.0 c.read_asks-asks.ensures.pending_value.1

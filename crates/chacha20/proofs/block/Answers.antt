@@ -6,5 +6,5 @@ use Rattle.chacha20.proofs.block.Goals as goal
 pub returns : goal.returns
 returns c =
     block-is _ _ _ _ _ _ _ _
-    c.le4-n0.ensures c.le4-n1.ensures c.le4-n2.ensures
-    c.block_words-w.ensures c.serial.ensures
+    c.le-n0.ensures.0 c.le-n1.ensures.0 c.le-n2.ensures.0
+    c.block_words.ensures c.serial.ensures

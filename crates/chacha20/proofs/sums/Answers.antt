@@ -1,24 +1,10 @@
--- `chacha20::sums` meets its contract: sixteen sums, by `sums-is` of `BlockLaws`.
+-- `chacha20::sums` meets its contract: each word is a sum, by `sums-is` of `BlockLaws`.
 -- Assumes nothing.
+use Rattle.std.proofs.Common.{rules}
+use Rattle.chacha20.specs.ChaCha20.{◌⊞◌}
 use Rattle.chacha20.proofs.BlockLaws.{sums-is}
 use Rattle.chacha20.proofs.sums.Goals as goal
 
 pub returns : goal.returns
-returns c =
-    sums-is _ _ _ _ _ _ _ _ _ _ _ _ _ _ _ _ _ _
-    c.add.ensures
-    c.add-2.ensures
-    c.add-3.ensures
-    c.add-4.ensures
-    c.add-5.ensures
-    c.add-6.ensures
-    c.add-7.ensures
-    c.add-8.ensures
-    c.add-9.ensures
-    c.add-10.ensures
-    c.add-11.ensures
-    c.add-12.ensures
-    c.add-13.ensures
-    c.add-14.ensures
-    c.add-15.ensures
-    c.add-16.ensures
+unfolding ◌⊞◌
+returns c = sums-is _ _ _ c.from_fn.ensures.items.long (λ i h. search rules)

@@ -1,12 +1,8 @@
 -- `chacha20_lanes::doubles_each` meets its contract: after i turns the lanes are `doubles_each s i`.
 -- Assumes nothing.
 use mathlib.Core.Path.{◌≡◌}
-use Prim.Native.Nat.{◌≤◌, ◌-◌}
 use Rattle.chacha20_lanes.specs.Firsts.{doubles_each}
 use Rattle.chacha20_lanes.proofs.doubles_each.Given as goal
 
 abbrev pub invariant-loop-i : goal.invariant-loop-i
-invariant-loop-i l = (l.i ≤ 10) × (l.v ≡ doubles_each l.initial.v l.i)
-
-abbrev pub decreases-loop-i : goal.decreases-loop-i
-decreases-loop-i l = 10 - l.i
+invariant-loop-i l = l.v ≡ doubles_each l.initial.v l._i

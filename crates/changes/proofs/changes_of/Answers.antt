@@ -1,34 +1,17 @@
--- The kind is known in each arm.
-use Prim.Native.Nat.{ℕ, ◌/◌}
-use mathlib.Core.Path.{sym, ap, ◌∙◌}
-use mathlib.Core.Bool.{true, false}
-use Rattle.changes.specs.Kinds.{changes_with, changes_for}
-use Rattle.changes.specs.declared.Kind.{Kind}
+-- The change is known in each arm.
 use Rattle.changes.proofs.changes_of.Goals as goal
 
 pub returns-in-Update : goal.returns-in-Update
-returns-in-Update c =
-    let a = c.args in
-    c.changes_with.ensures ∙ sym (ap (λ (k : Kind). changes_for a.c k a.m a.long) c.in-Update.is)
+returns-in-Update c = rw c.in-Update.is c.changes_with.ensures
 
 pub returns-in-Delete : goal.returns-in-Delete
-returns-in-Delete c =
-    let a = c.args in
-    c.changes_with-in-Delete.ensures ∙ sym (ap (λ (k : Kind). changes_for a.c k a.m a.long) c.in-Delete.is)
+returns-in-Delete c = rw c.in-Delete.is c.changes_with-in-Delete.ensures
 
 pub returns-in-Append : goal.returns-in-Append
-returns-in-Append c =
-    let a = c.args in
-    c.changes_with-in-Append.ensures ∙ sym (ap (λ (k : Kind). changes_for a.c k a.m a.long) c.in-Append.is)
+returns-in-Append c = rw c.in-Append.is c.changes_with-in-Append.ensures
 
 pub returns-in-Load : goal.returns-in-Load
-returns-in-Load c =
-    let a = c.args in
-    c.changes_with-in-Load.ensures ∙ sym (ap (λ (k : Kind). changes_for a.c k a.m a.long) c.in-Load.is)
+returns-in-Load c = rw c.in-Load.is c.changes_with-in-Load.ensures
 
 pub returns-in-Batch : goal.returns-in-Batch
-returns-in-Batch c =
-    let a = c.args in
-    c.changes_with-in-Batch.ensures
-    ∙ ap (λ (n : ℕ). changes_with a.c 0 (a.long / n) false true) c.item_bytes-each.ensures.0
-    ∙ sym (ap (λ (k : Kind). changes_for a.c k a.m a.long) c.in-Batch.is)
+returns-in-Batch c = rw (c.in-Batch.is, ← c.item_bytes-each.ensures.0) c.changes_with-in-Batch.ensures

@@ -1,20 +1,21 @@
--- The mark of an update or a deletion; the other kinds hand over none, by mark-none.
-use mathlib.Core.Path.{ap, ◌∙◌}
+-- The mark of an update or a deletion; the other changes hand over none.
 use Rattle.scheme.specs.Marks.{marks_fit}
-use Rattle.changes.proofs.KindLaws.{mark-updated, mark-deleted, mark-none}
 use Rattle.changes.proofs.mark_fits.Goals as goal
 
 pub returns-in-Update : goal.returns-in-Update
-returns-in-Update c = λ m old new.
-    let a = c.args in
-    c.marks_fit.ensures ∙ ap marks_fit (mark-updated a.kind m old a.mark.now new c.in-Update.is)
+returns-in-Update c = rw c.in-Update.is c.marks_fit.ensures
 
 pub returns-in-Delete : goal.returns-in-Delete
-returns-in-Delete c = λ m old new.
-    let a = c.args in
-    c.marks_fit-in-Delete.ensures ∙ ap marks_fit (mark-deleted a.kind m old a.mark.now new c.in-Delete.is)
+returns-in-Delete c = rw c.in-Delete.is c.marks_fit-in-Delete.ensures
 
-pub returns-in_default : goal.returns-in_default
-returns-in_default c = λ m old new.
-    let a = c.args in
-    mark-none a.kind m old a.mark.now new c.in_default.not-Update c.in_default.not-Delete
+pub returns-in-Append : goal.returns-in-Append
+unfolding marks_fit
+returns-in-Append c = rw c.in-Append.is
+
+pub returns-in-Load : goal.returns-in-Load
+unfolding marks_fit
+returns-in-Load c = rw c.in-Load.is
+
+pub returns-in-Batch : goal.returns-in-Batch
+unfolding marks_fit
+returns-in-Batch c = rw c.in-Batch.is

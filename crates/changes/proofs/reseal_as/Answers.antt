@@ -1,4 +1,4 @@
--- Each arm hands over the block changes of its kind, with their marks, by update-changes to batch-changes; what they leave and take is the change's, by resealed.
+-- Each arm hands over the block changes of its change, with their marks, by update-changes to batch-changes; what they leave and take is the change's, by resealed.
 use mathlib.Core.Path.{sym}
 use lib.Seq.{length-take-le}
 use Rattle.changes.proofs.BlockChangeLaws.{zeros-long, resealed, update-changes, delete-changes, append-changes, load-changes, batch-changes}
@@ -12,7 +12,7 @@ slice_bounds-live-end c =
 pub reseal-requires : goal.reseal-requires
 reseal-requires c =
     let a = c.args in
-    let w = update-changes a.c a.kind a.m a.old.now a.mark.now a.new.now a.changes c.requires.changes_value.0 c.requires.changes_value.1 _ c.marks_in-k.ensures.0 c.in-Update.is in
+    let w = update-changes a.c a.change a.changes c.requires.changes_value.0 c.requires.changes_value.1 _ c.marks_in-k.ensures.0 _ _ _ _ c.in-Update.is in
     (c.requires.opens, w.shaped, w.lent)
 
 pub slice_bounds-reseal-end : goal.slice_bounds-reseal-end
@@ -27,31 +27,31 @@ slice_bounds-reseal-end-in-Delete c =
 pub reseal-requires-in-Delete : goal.reseal-requires-in-Delete
 reseal-requires-in-Delete c =
     let a = c.args in
-    let w = delete-changes a.c a.kind a.m a.old.now a.mark.now a.new.now a.changes c.requires.changes_value.0 c.requires.changes_value.1 _ c.marks_in-k.ensures.0 c.in-Delete.is in
+    let w = delete-changes a.c a.change a.changes c.requires.changes_value.0 c.requires.changes_value.1 _ c.marks_in-k.ensures.0 _ _ _ c.in-Delete.is in
     (c.requires.opens, w.shaped, w.lent)
 
 pub reseal-requires-in-Append : goal.reseal-requires-in-Append
 reseal-requires-in-Append c =
     let a = c.args in
-    let w = append-changes a.c a.kind a.m a.old.now a.mark.now a.new.now a.changes c.requires.changes_value.0 c.requires.changes_value.1 _ c.marks_in-k.ensures.0 c.in-Append.is in
+    let w = append-changes a.c a.change a.changes c.requires.changes_value.0 c.requires.changes_value.1 _ c.marks_in-k.ensures.0 _ c.in-Append.is in
     (c.requires.opens, w.shaped, w.lent)
 
 pub reseal-requires-in-Load : goal.reseal-requires-in-Load
 reseal-requires-in-Load c =
     let a = c.args in
-    let w = load-changes a.c a.kind a.m a.old.now a.mark.now a.new.now a.changes c.requires.changes_value.0 c.requires.changes_value.1 _ c.marks_in-k.ensures.0 c.in-Load.is in
+    let w = load-changes a.c a.change a.changes c.requires.changes_value.0 c.requires.changes_value.1 _ c.marks_in-k.ensures.0 _ c.in-Load.is in
     (c.requires.opens, w.shaped, w.lent)
 
 pub reseal-requires-in-Batch : goal.reseal-requires-in-Batch
 reseal-requires-in-Batch c =
     let a = c.args in
-    let w = batch-changes a.c a.kind a.m a.old.now a.mark.now a.new.now a.changes c.requires.changes_value.0 c.requires.changes_value.1 _ c.marks_in-k.ensures.0 c.in-Batch.is in
+    let w = batch-changes a.c a.change a.changes c.requires.changes_value.0 c.requires.changes_value.1 _ c.marks_in-k.ensures.0 _ c.in-Batch.is in
     (c.requires.opens, w.shaped, w.lent)
 
 pub returns-in-Update : goal.returns-in-Update
 returns-in-Update c =
     let a = c.args in
-    let w = update-changes a.c a.kind a.m a.old.now a.mark.now a.new.now a.changes c.requires.changes_value.0 c.requires.changes_value.1 _ c.marks_in-k.ensures.0 c.in-Update.is in
+    let w = update-changes a.c a.change a.changes c.requires.changes_value.0 c.requires.changes_value.1 _ c.marks_in-k.ensures.0 _ _ _ _ c.in-Update.is in
     let whole =
     resealed a.keys a.table.now _ _ _ w (c.reseal.ensures.by_index, c.reseal.ensures.by_index_2) in record {
       by_index = whole.0;
@@ -61,7 +61,7 @@ returns-in-Update c =
 pub returns-in-Delete : goal.returns-in-Delete
 returns-in-Delete c =
     let a = c.args in
-    let w = delete-changes a.c a.kind a.m a.old.now a.mark.now a.new.now a.changes c.requires.changes_value.0 c.requires.changes_value.1 _ c.marks_in-k.ensures.0 c.in-Delete.is in
+    let w = delete-changes a.c a.change a.changes c.requires.changes_value.0 c.requires.changes_value.1 _ c.marks_in-k.ensures.0 _ _ _ c.in-Delete.is in
     let whole =
     resealed a.keys a.table.now _ _ _ w (c.reseal-in-Delete.ensures.by_index, c.reseal-in-Delete.ensures.by_index_2) in record {
       by_index = whole.0;
@@ -71,7 +71,7 @@ returns-in-Delete c =
 pub returns-in-Append : goal.returns-in-Append
 returns-in-Append c =
     let a = c.args in
-    let w = append-changes a.c a.kind a.m a.old.now a.mark.now a.new.now a.changes c.requires.changes_value.0 c.requires.changes_value.1 _ c.marks_in-k.ensures.0 c.in-Append.is in
+    let w = append-changes a.c a.change a.changes c.requires.changes_value.0 c.requires.changes_value.1 _ c.marks_in-k.ensures.0 _ c.in-Append.is in
     let whole =
     resealed a.keys a.table.now _ _ _ w (c.reseal-in-Append.ensures.by_index, c.reseal-in-Append.ensures.by_index_2) in record {
       by_index = whole.0;
@@ -81,7 +81,7 @@ returns-in-Append c =
 pub returns-in-Load : goal.returns-in-Load
 returns-in-Load c =
     let a = c.args in
-    let w = load-changes a.c a.kind a.m a.old.now a.mark.now a.new.now a.changes c.requires.changes_value.0 c.requires.changes_value.1 _ c.marks_in-k.ensures.0 c.in-Load.is in
+    let w = load-changes a.c a.change a.changes c.requires.changes_value.0 c.requires.changes_value.1 _ c.marks_in-k.ensures.0 _ c.in-Load.is in
     let whole =
     resealed a.keys a.table.now _ _ _ w (c.reseal-in-Load.ensures.by_index, c.reseal-in-Load.ensures.by_index_2) in record {
       by_index = whole.0;
@@ -91,7 +91,7 @@ returns-in-Load c =
 pub returns-in-Batch : goal.returns-in-Batch
 returns-in-Batch c =
     let a = c.args in
-    let w = batch-changes a.c a.kind a.m a.old.now a.mark.now a.new.now a.changes c.requires.changes_value.0 c.requires.changes_value.1 _ c.marks_in-k.ensures.0 c.in-Batch.is in
+    let w = batch-changes a.c a.change a.changes c.requires.changes_value.0 c.requires.changes_value.1 _ c.marks_in-k.ensures.0 _ c.in-Batch.is in
     let whole =
     resealed a.keys a.table.now _ _ _ w (c.reseal-in-Batch.ensures.by_index, c.reseal-in-Batch.ensures.by_index_2) in record {
       by_index = whole.0;

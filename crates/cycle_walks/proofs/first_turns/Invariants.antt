@@ -1,5 +1,5 @@
 -- After each walk those so far have taken their first turn, by walking-first, and the places of those that go on come first, by places-first.
-use Prim.Native.Nat.{◌-◌, ◌^◌, ◌≤◌}
+use Prim.Native.Nat.{◌^◌, ◌≤◌}
 use mathlib.Core.Path.{◌≡◌}
 use lib.ListN.{length, take}
 use Rattle.cycle_walks.specs.Each.{Below, Walking, going}
@@ -7,13 +7,10 @@ use Rattle.cycle_walks.proofs.first_turns.Given as goal
 
 abbrev pub invariant-loop-i : goal.invariant-loop-i
 invariant-loop-i l =
-    (l.i ≤ l.n)
-    × (l.left ≤ l.i)
+    let p = l.t.of in
+    (l.left ≤ l.i)
     × (length l.ends ≡ length l.initial.ends)
-    × (length l.places ≡ length l.initial.places)
-    × (take l.left l.places ≡ going l.d l.ends l.i 0)
-    × Below (4 ^ l.h) l.i l.ends
-    × Walking l.key l.d l.i l.xs l.ends l.i
-
-abbrev pub decreases-loop-i : goal.decreases-loop-i
-decreases-loop-i l = l.n - l.i
+    × (length l.places ≡ 256)
+    × (take l.left l.places ≡ going p.d l.ends l.i 0)
+    × Below (4 ^ p.h) l.i l.ends
+    × Walking p.key p.d l.i l.xs l.ends l.i

@@ -1,6 +1,6 @@
 -- The places of the walks that went on and go on still come first, and behind them those of the walks whose turn is not taken yet (places-next); each
 -- turn brings its walk further (walking-next).
-use Prim.Native.Nat.{ℕ, ◌+◌, ◌-◌, ◌^◌, ◌≤◌}
+use Prim.Native.Nat.{ℕ, ◌+◌, ◌^◌, ◌≤◌}
 use mathlib.Core.Path.{◌≡◌}
 use mathlib.Core.List.{List, ◌++◌}
 use lib.ListN.{length, take}
@@ -10,13 +10,11 @@ use Rattle.cycle_walks.proofs.next_turns.Given as goal
 
 abbrev pub invariant-loop-at : goal.invariant-loop-at
 invariant-loop-at l =
-    (l.at ≤ l.left)
-    × (l.still ≤ l.at)
-    × (length l.ends ≡ length l.initial.ends)
-    × (length l.places ≡ length l.initial.places)
-    × (take l.still l.places ++ slice l.at l.left l.places ≡ going l.d l.ends l.n 0)
-    × Below (4 ^ l.h) l.n l.ends
-    × ((xs : List ℕ) (t : ℕ) → Below l.d l.n xs → Walking l.key l.d l.n xs l.initial.ends t → Walking l.key l.d l.n xs l.ends (t + l.at))
-
-abbrev pub decreases-loop-at : goal.decreases-loop-at
-decreases-loop-at l = l.left - l.at
+    let p = l.t.of in
+    let n = length l.initial.ends in
+    (l.still ≤ l.at)
+    × (length l.ends ≡ n)
+    × (length l.places ≡ 256)
+    × (take l.still l.places ++ slice l.at l.left l.places ≡ going p.d l.ends n 0)
+    × Below (4 ^ p.h) n l.ends
+    × ((xs : List ℕ) (m : ℕ) → Below p.d n xs → Walking p.key p.d n xs l.initial.ends m → Walking p.key p.d n xs l.ends (m + l.at))

@@ -2,64 +2,57 @@
 -- how many turns are ahead.
 use borrow.Author.Rules.{rules}
 use native.Mathlib.Omega.{arith}
-use Prim.Native.Nat.{ℕ}
-use mathlib.Core.Path.{◌≡◌, refl, sym, ap, subst, ◌∙◌}
-use lib.ListN.{take}
-use Rattle.permutation.specs.Table.{Whole}
+use Prim.Native.Nat.{ℕ, ◌+◌, ◌^◌}
+use mathlib.Core.Path.{◌≡◌, sym, ap, subst, ◌∙◌}
+use mathlib.Core.List.{List}
+use lib.ListN.{length, take}
+use Rattle.cycle_walks.specs.Each.{Below, Walking, going}
 use Rattle.cycle_walks.proofs.WalkingLaws.{turns-most, walking-end}
 use Rattle.cycle_walks.proofs.side_by_side.Goals as goal
+use Rattle.cycle_walks.proofs.side_by_side.Goals.{After-next_turns-still}
 
-pub first_turns-left-requires : goal.first_turns-left-requires
-first_turns-left-requires c =
-    let a = c.args in record {
-      h_value = (c.half_width-h.ensures, c.requires.le_d.1, subst (λ (k : ℕ). Whole a.key k a.table.now) (sym c.half_width-h.ensures) c.requires.le_d.2, c.requires.le_d.3, c.requires.le_d.4);
-      n_in_bounds = (c.requires.n_in_bounds.0, c.requires.n_in_bounds.1, search rules);
-    }
-
-pub loop-left-init : goal.loop-left-init
-loop-left-init c =
-    (c.first_turns-left.ensures.upper_bound.0, refl, search rules, c.first_turns-left.ensures.upper_bound.1, c.first_turns-left.ensures.below.0, c.first_turns-left.ensures.below.1)
-
-pub next_turns-still-requires : goal.next_turns-still-requires
-next_turns-still-requires c =
+-- the walks after one more turn
+after : (c : After-next_turns-still)
+    → Walking c.args.t.of.key c.args.t.of.d (length c.args.ends.now) c.args.xs.now c.next_turns-still.new.ends (c.loop-left.turns + c.loop-left.left)
+after c =
+    let p = c.args.t.of in
     let l = c.loop-left in
-    let a = c.args in record {
-      h_value = (c.half_width-h.ensures, c.requires.le_d.1, subst (λ (k : ℕ). Whole a.key k a.table.now) (sym c.half_width-h.ensures) c.requires.le_d.2, c.requires.le_d.3, l.invariant.0);
-      n_in_bounds = (omega (arith, l.invariant.1, c.first_turns-left.auto, c.requires.n_in_bounds.1), l.invariant.2, l.invariant.4, l.invariant.3);
-    }
+    let e = c.next_turns-still.new.ends in
+    let turn = subst (λ (n : ℕ). (xs : List ℕ) (m : ℕ) → Below p.d n xs → Walking p.key p.d n xs l.ends m → Walking p.key p.d n xs e (m + l.left)) l.invariant.1
+    c.next_turns-still.ensures.by_index in
+    turn c.args.xs.now l.turns c.requires.2 l.invariant.5
 
 pub overflow_add-turns : goal.overflow_add-turns
 overflow_add-turns c =
-    let l = c.loop-left in
-    let a = c.args in
-    let after = c.next_turns-still.ensures.by_index a.xs.now l.turns c.requires.le_d.4 l.invariant.5 in
-    omega (arith, after.counted, turns-most a.key a.d a.n a.xs.now c.requires.le_d.1 c.requires.le_d.4, c.requires.le_d.3)
+    let p = c.args.t.of in
+    omega (
+      arith,
+      (after (goal.at.overflow_add-turns c).After-next_turns-still).counted,
+      turns-most p.key p.d (length c.args.ends.now) c.args.xs.now p.few c.requires.2,
+      c.requires.1,
+    )
 
 pub loop-left-smaller : goal.loop-left-smaller
 loop-left-smaller c =
-    let l = c.loop-left in
-    let after = c.next_turns-still.ensures.by_index c.args.xs.now l.turns c.requires.le_d.4 l.invariant.5 in
-    omega (arith, after.counted, l.invariant.5.counted, c.loop-left-test.true)
+    omega (arith, (after (goal.at.loop-left-smaller c).After-next_turns-still).counted, c.loop-left.invariant.5.counted, c.loop-left-test.true)
 
 pub loop-left-preserved : goal.loop-left-preserved
 loop-left-preserved c =
+    let p = c.args.t.of in
     let l = c.loop-left in
     let n = c.next_turns-still in
-    let e = n.ensures in (
-      omega (arith, e.upper_bound.0, l.invariant.0),
+    let e = n.ensures.upper_bound in (
+      omega (arith, e.0, l.invariant.0),
       omega (arith, n.auto, l.invariant.1),
-      omega (arith, n.auto, l.invariant.2),
-      e.upper_bound.1,
-      e.upper_bound.2,
-      e.by_index c.args.xs.now l.turns c.requires.le_d.4 l.invariant.5,
+      search rules,
+      e.1 ∙ ap (λ (k : ℕ). going p.d n.new.ends k 0) l.invariant.1,
+      subst (λ (k : ℕ). Below (4 ^ p.h) k n.new.ends) l.invariant.1 e.2,
+      after (goal.at.loop-left-preserved c).After-next_turns-still,
     )
-
-pub shape_of-ends : goal.shape_of-ends
-shape_of-ends c = omega (arith, c.loop-left.invariant.1, c.first_turns-left.auto)
 
 pub returns : goal.returns
 returns c =
+    let p = c.args.t.of in
     let l = c.loop-left in
-    let a = c.args in
     let none : l.left ≡ 0 = omega (arith, c.loop-left-test.false) in
-    walking-end a.key a.d a.n l.turns a.xs.now l.ends c.requires.le_d.4 (sym l.invariant.3 ∙ ap (λ (k : ℕ). take k l.places) none) l.invariant.5
+    walking-end p.key p.d (length c.args.ends.now) l.turns c.args.xs.now l.ends c.requires.2 (sym l.invariant.3 ∙ ap (λ (k : ℕ). take k l.places) none) l.invariant.5

@@ -8,12 +8,14 @@ use Rattle.cycle_walks.proofs.side_by_side.Given as goal
 
 abbrev pub invariant-loop-left : goal.invariant-loop-left
 invariant-loop-left l =
-    (l.left ≤ l.n)
-    × (length l.ends ≡ length l.initial.ends)
+    let p = l.t.of in
+    let n = length l.fn.ends in
+    (l.left ≤ n)
+    × (length l.ends ≡ n)
     × (length l.places ≡ 256)
-    × (take l.left l.places ≡ going l.d l.ends l.n 0)
-    × Below (4 ^ l.h) l.n l.ends
-    × Walking l.key l.d l.n l.xs l.ends l.turns
+    × (take l.left l.places ≡ going p.d l.ends n 0)
+    × Below (4 ^ p.h) n l.ends
+    × Walking p.key p.d n l.xs l.ends l.turns
 
 abbrev pub decreases-loop-left : goal.decreases-loop-left
-decreases-loop-left l = ahead_of l.key l.d l.n l.ends
+decreases-loop-left l = ahead_of l.t.of.key l.t.of.d (length l.fn.ends) l.ends

@@ -8,49 +8,45 @@ use Rattle.cycle_walks.proofs.turns_alone.Goals as goal
 use Rattle.cycle_walks.proofs.turns_alone.Goals.{In-loop-i}
 
 -- the row at hand is below d
-below : (c : In-loop-i) → c.loop-i.row < c.args.d
-below c =
-    let l = c.loop-i in
-    row_below c.args.d (c.args.from + l.i) l.row c.requires.0 l.invariant.1
+below : (c : In-loop-i) → c.loop-i.row < c.args.p.d
+below c = row_below c.args.p.d _ c.loop-i.row c.args.p.some c.loop-i.invariant.0
 
 pub loop-i-init : goal.loop-i-init
 loop-i-init c =
     let a = c.args in
     let z : a.from ≡ a.from + 0 = omega arith in
-    (omega arith, ap (λ (k : ℕ). k % a.d) z, sym (along-none a.key a.d a.from))
+    (ap (λ (k : ℕ). k % a.p.d) z, sym (along-none a.p.key a.p.d a.from))
 
 pub backward-walk-requires : goal.backward-walk-requires
-backward-walk-requires c = (c.requires.1, below (goal.at.backward-walk-requires c).In-loop-i)
+backward-walk-requires c = below (goal.at.backward-walk-requires c).In-loop-i
 
 pub overflow_add-turns : goal.overflow_add-turns
 overflow_add-turns c =
-    let a = c.args in
+    let p = c.args.p in
     let l = c.loop-i in
     omega (
       arith,
-      l.invariant.2,
+      l.invariant.1,
       c.backward-walk.ensures.value_value.1,
-      along_one a.key a.d a.from l.i l.row l.invariant.1,
-      along-most a.key a.d a.from (l.i + 1) c.requires.0 c.requires.1,
+      along_one p.key p.d c.args.from l._i l.row l.invariant.0,
+      along-most p.key p.d c.args.from (l._i + 1) p.some p.few,
       c.loop-i-test.true,
-      c.requires.3,
+      c.requires.1,
     )
 
 pub next_row-row-requires : goal.next_row-row-requires
-next_row-row-requires c = (c.requires.1, below (goal.at.next_row-row-requires c).In-loop-i)
+next_row-row-requires c = (c.args.p.few, below (goal.at.next_row-row-requires c).In-loop-i)
 
 pub loop-i-preserved : goal.loop-i-preserved
 loop-i-preserved c =
-    let a = c.args in
+    let p = c.args.p in
     let l = c.loop-i in (
-      omega (arith, c.loop-i-test.true),
-      row_next a.d a.from l.i l.row _ l.invariant.1 c.next_row-row.ensures,
-      omega (arith, l.invariant.2, c.backward-walk.ensures.value_value.1, along_one a.key a.d a.from l.i l.row l.invariant.1),
+      row_next p.d c.args.from l._i l.row _ l.invariant.0 c.next_row-row.ensures,
+      omega (arith, l.invariant.1, c.backward-walk.ensures.value_value.1, along_one p.key p.d c.args.from l._i l.row l.invariant.0),
     )
 
 pub returns : goal.returns
 returns c =
-    let a = c.args in
-    let l = c.loop-i in
-    let all : l.i ≡ a.n = omega (arith, l.invariant.0, c.loop-i-test.false) in
-    l.invariant.2 ∙ ap (turns_along a.key a.d a.from) all
+    let p = c.args.p in
+    let all : c.loop-i._i ≡ c.args.n = omega arith in
+    c.loop-i.invariant.1 ∙ ap (turns_along p.key p.d c.args.from) all

@@ -1,12 +1,11 @@
 -- After each group the turns from the rows so far are counted (along-group).
 use Prim.Native.Nat.{◌-◌, ◌≤◌}
 use mathlib.Core.Path.{◌≡◌}
-use lib.ListN.{length}
 use Rattle.cycle_walks.specs.Along.{turns_along}
 use Rattle.cycle_walks.proofs.turns_in_groups.Given as goal
 
 abbrev pub invariant-loop-done : goal.invariant-loop-done
-invariant-loop-done l = (l.done ≤ l.n) × (length l.vs ≡ 1024) × (l.turns ≡ turns_along l.key l.d l.from l.done)
+invariant-loop-done l = (l.done ≤ l.n) × (l.turns ≡ turns_along l.t.of.key l.t.of.d l.from l.done)
 
 abbrev pub decreases-loop-done : goal.decreases-loop-done
 decreases-loop-done l = l.n - l.done

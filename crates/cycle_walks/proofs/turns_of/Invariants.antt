@@ -8,7 +8,9 @@ use Rattle.cycle_walks.proofs.turns_of.Given as goal
 
 abbrev pub invariant-loop-left : goal.invariant-loop-left
 invariant-loop-left l =
-    (l.left ≤ l.n) × (length l.vs ≡ length l.initial.vs) × Underway l.key l.d 0 l.left l.vs × (l.taken + turns_of l.key l.d l.left l.vs ≡ turns_of l.key l.d l.n l.initial.vs)
+    let p = l.t.of in
+    let n = length l.initial.vs in
+    (l.left ≤ n) × (length l.vs ≡ n) × Underway p.key p.d 0 l.left l.vs × (l.taken + turns_of p.key p.d l.left l.vs ≡ turns_of p.key p.d n l.initial.vs)
 
 abbrev pub decreases-loop-left : goal.decreases-loop-left
-decreases-loop-left l = turns_of l.key l.d l.left l.vs
+decreases-loop-left l = turns_of l.t.of.key l.t.of.d l.left l.vs

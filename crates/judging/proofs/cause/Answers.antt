@@ -1,33 +1,25 @@
--- A refusal's code is judge's, by cause-kept; else it is the cause's place, by cause-done.
+-- A refusal is judge's, by cause-kept; else it is the cause's place, by cause-done.
 use Prim.Native.Nat.{ℕ, ◌*◌}
-use native.Mathlib.Omega.{arith}
-use mathlib.Core.Path.{ap, ◌∙◌}
+use mathlib.Core.Path.{refl, ap, ◌∙◌}
+use mathlib.Core.List.{List}
+use Rattle.counts.specs.Refused.{number}
+use Rattle.counts.proofs.RefusedLaws.{refuses, err-on}
 use Rattle.cards.specs.Fields.{card_of}
-use Rattle.cards.proofs.FaultLaws.{card-read}
-use Rattle.scheme.specs.Judging.{cause_number}
-use Rattle.judging.proofs.JudgeLaws.{judge-held, cause-kept, cause-done}
+use Rattle.scheme.specs.Judging as J
+use Rattle.standard.specs.Standard.{standard}
+use Rattle.judging.specs.Causes.{cause_in}
+use Rattle.judging.proofs.JudgeLaws.{cause-kept, cause-done}
 use Rattle.judging.proofs.cause.Goals as goal
 
-pub returns-then-fault-ne0 : goal.returns-then-fault-ne0
-returns-then-fault-ne0 c =
-    cause-kept c.args.master.now c.args.card.now c.args.reply.now c.judge_fault-fault.result c.judge_fault-fault.ensures c.if-fault-ne0.true
-
-pub read_card-c-requires : goal.read_card-c-requires
-read_card-c-requires c =
-    card-read c.args.card.now
-    (judge-held c.args.master.now c.args.card.now c.judge_fault-fault.result c.judge_fault-fault.ensures c.if-fault-ne0.false).fault
-
-pub reply_cause-why-requires : goal.reply_cause-why-requires
-reply_cause-why-requires c =
-    let fault = c.judge_fault-fault in
-    (judge-held c.args.master.now c.args.card.now fault.result fault.ensures c.if-fault-ne0.false).key32
-
-pub overflow_mul-result : goal.overflow_mul-result
-overflow_mul-result c = omega (arith, c.number_of.ensures.1)
+pub returns-in_err-master : goal.returns-in_err-master
+returns-in_err-master c =
+    let e = c.in_err-master.field-0.0 in
+    ap cause_in (err-on _ e c.from_residual.ensures)
+    ∙ cause-kept c.args.master.now c.args.card.now c.args.reply.now (number e) c.in_err-master.ensures.code (refuses e)
 
 pub returns : goal.returns
 returns c =
-    let fault = c.judge_fault-fault in
-    let card = c.read_card-c in
-    cause-done c.args.master.now c.args.card.now c.args.reply.now fault.result fault.ensures (card_of card.result) _ c.if-fault-ne0.false card.ensures
-    (ap (λ (n : ℕ). 256 * n) (c.number_of.ensures.0 ∙ ap cause_number c.reply_cause-why.ensures))
+    let k = c.in_ok-master.ensures in
+    let why = c.reply_cause.ensures ∙ ap (λ (m : List ℕ). J.cause standard m (card_of c.in_ok-master.c) c.args.reply.now) k.kept.0 in
+    cause-done c.args.master.now c.args.card.now c.args.reply.now 0 k.code (card_of c.in_ok-master.c) _ refl k.kept.1
+    (ap (λ (w : J.Cause). 256 * J.cause_number w) why)

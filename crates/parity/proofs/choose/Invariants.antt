@@ -8,7 +8,4 @@ use Rattle.parity.specs.Choice.{picks}
 use Rattle.parity.proofs.choose.Given as goal
 
 abbrev pub invariant-loop-i : goal.invariant-loop-i
-invariant-loop-i l = (l.n ≤ l.i) × (l.i ≤ l.end) × (l.r + (l.end - l.i) ≤ length l.out) × (length l.out ≡ length l.initial.out) × (take l.r l.out ++ chosen (picks l.want l.lost) l.i (l.end - l.i) ≡ chosen (picks l.want l.lost) l.n l.c)
-
-abbrev pub decreases-loop-i : goal.decreases-loop-i
-decreases-loop-i l = l.end - l.i
+invariant-loop-i l = (l.r + (l.end - l.i) ≤ length l.out) × (take l.r l.out ++ chosen (picks l.want l.lost) l.i (l.end - l.i) ≡ chosen (picks l.want l.lost) l.n l.c)

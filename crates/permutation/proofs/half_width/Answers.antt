@@ -1,4 +1,4 @@
--- `permutation::half_width` meets its contract: 64 less the leading zeros of d - 1 is its bit length (`length-zeros`).
+-- 64 less the leading zeros of d - 1 is its bit length (length-zeros).
 use native.Mathlib.Omega.{arith}
 use Prim.Native.Nat.{◌-◌}
 use lib.Count.{leading_le}
@@ -6,14 +6,6 @@ use Rattle.permutation.specs.Rounds.{half}
 use Rattle.permutation.proofs.WidthLaws.{length-zeros}
 use Rattle.permutation.proofs.half_width.Goals as goal
 
-pub overflow_sub-h-2 : goal.overflow_sub-h-2
-overflow_sub-h-2 c = omega (arith, leading_le 64 (c.args.d - 1))
-
-pub returns-then-h-eq0 : goal.returns-then-h-eq0
-unfolding half
-returns-then-h-eq0 c = omega (arith, leading_le 64 (c.args.d - 1), length-zeros 64 (c.args.d - 1) (omega arith))
-
 pub returns : goal.returns
 unfolding half
-returns c =
-    omega (arith, leading_le 64 (c.args.d - 1), length-zeros 64 (c.args.d - 1) (omega arith), c.if-h-eq0.false)
+returns c = omega (arith, leading_le 64 (c.args.d - 1), length-zeros 64 (c.args.d - 1) (omega arith), c.max.ensures)

@@ -1,43 +1,37 @@
--- `permutation::rounds` meets its contract. The loop's invariant: v is what the rounds below q make of x.
-use mathlib.Core.Path.{◌≡◌, ap, ◌∙◌}
+-- A turn of the loop is done-turn, and the eight rounds are those at the half width of d (rounds-at).
+use mathlib.Core.Path.{◌≡◌, ap, sym, ◌∙◌, subst}
 use Prim.Native.Nat.{ℕ}
 use native.Mathlib.Omega.{arith}
-use borrow.Author.Rules.{rules}
-use Rattle.permutation.specs.Rounds.{rounds}
+use Rattle.permutation.specs.Rounds.{joined, Halved, Parted, rounds}
 use Rattle.permutation.specs.Permutation.{round_function}
-use Rattle.permutation.proofs.RoundLaws.{rounds-lt, rounds-more}
-use Rattle.permutation.proofs.PermutationLaws.{within}
+use Rattle.permutation.specs.declared.Permutation.{Permutation}
+use Rattle.permutation.proofs.HalfLaws.{done-turn}
+use Rattle.permutation.proofs.PermutationLaws.{rounds-at}
 use Rattle.permutation.proofs.rounds.Goals as goal
 
 pub loop-q-init : goal.loop-q-init
 unfolding rounds
-loop-q-init c = search rules
+loop-q-init g c =
+    subst (λ (p : Permutation). Parted p.h c.split-v.result.high c.split-v.result.low c.args.x) c.permutation-p.ensures c.split-v.ensures
 
 pub round-v-requires : goal.round-v-requires
-round-v-requires c =
-    let a = c.args in
-    let l = c.loop-q in (
-      c.requires.0,
-      omega arith,
-      rw l.invariant.1 (rounds-lt (round_function a.key a.h) a.h (within a.key a.h) l.q a.x c.requires.1),
-      c.requires.2,
-    )
-
-pub overflow_add-q : goal.overflow_add-q
-overflow_add-q c = omega arith
-
-pub loop-q-smaller : goal.loop-q-smaller
-loop-q-smaller c = omega arith
+round-v-requires g c = (omega arith, c.loop-q.invariant.0)
 
 pub loop-q-preserved : goal.loop-q-preserved
-loop-q-preserved c =
-    let a = c.args in
-    let l = c.loop-q in
-    (omega arith, rounds-more (round_function a.key a.h) a.h l.q a.x l.v _ l.invariant.1 c.round-v.ensures)
+loop-q-preserved g c =
+    let p = g.V.Values.under c.args.f in
+    done-turn (round_function p.key p.h) p.h c.loop-q.q c.args.x c.loop-q.invariant c.round-v.ensures
+
+pub join-requires : goal.join-requires
+join-requires g c =
+    subst (λ (p : Permutation). Halved p.h c.loop-q.v.high c.loop-q.v.low) (sym c.permutation-p.ensures) c.loop-q.invariant.0
 
 pub returns : goal.returns
-returns c =
-    let a = c.args in
-    let l = c.loop-q in
-    let e : l.q ≡ 8 = omega arith in
-    l.invariant.1 ∙ ap (λ (n : ℕ). rounds (round_function a.key a.h) a.h n a.x) e
+returns g c =
+    let p = g.V.Values.under c.args.f in
+    let all : c.loop-q.q ≡ 8 = omega arith in
+    c.join.ensures
+    ∙ ap (λ (p : Permutation). joined p.h c.loop-q.v.high c.loop-q.v.low) c.permutation-p.ensures
+    ∙ c.loop-q.invariant.1
+    ∙ ap (λ (n : ℕ). rounds (round_function p.key p.h) p.h n c.args.x) all
+    ∙ rounds-at p.key p.d c.args.x p.half

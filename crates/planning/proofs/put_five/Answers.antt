@@ -1,14 +1,15 @@
--- `planning::put_five` meets its contract: each number stands behind the one before, by the law of fields that `records` has.
-use mathlib.Core.Path.{refl}
-use Rattle.octets.specs.Octets.{be}
-use Rattle.octets.proofs.NumberLaws.{length-be}
-use Rattle.records.proofs.FieldLaws.{opened, number, filled}
+-- A number more is a field more, by `stored`; after five the buffer is filled.
+use Rattle.std.proofs.Common.{arith, refl, sym, []}
+use Rattle.octets.proofs.PartLaws.{put-none}
+use Rattle.records.proofs.FieldLaws.{opened}
+use Rattle.planning.proofs.CallLaws.{stored, all-stored}
 use Rattle.planning.proofs.put_five.Goals as goal
 
+pub loop-i-init : goal.loop-i-init
+loop-i-init c = opened 40 0 [] c.args.out.now c.requires refl (sym (put-none 0 c.args.out.now))
+
+pub loop-i-preserved : goal.loop-i-preserved
+loop-i-preserved c = stored c.args.five c.loop-i.i (omega arith) (omega arith) c.loop-i.invariant c.put_be.ensures
+
 pub returns : goal.returns
-returns c =
-    let one = opened 40 8 (be 8 c.args.a) c.args.out.now c.requires (length-be 8 c.args.a) c.put_be8.ensures in
-    let two = number 8 c.args.b one refl c.put_be8-2.ensures in
-    let three = number 8 c.args.c two refl c.put_be8-3.ensures in
-    let four = number 8 c.args.d three refl c.put_be8-4.ensures in
-    filled (number 8 c.args.e four refl c.put_be8-5.ensures)
+returns c = all-stored c.args.five c.loop-i.i (omega arith) (omega arith) c.loop-i.invariant

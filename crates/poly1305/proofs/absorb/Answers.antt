@@ -9,7 +9,7 @@ use Rattle.poly1305.proofs.absorb.Goals as goal
 
 pub returns : goal.returns
 returns c = record {
-  small = c.mul_limbs.ensures.small;
-  same = c.mul_limbs.ensures.same ∙
+  small = c.mul.ensures.small;
+  same = c.mul.ensures.same ∙
       ap (λ (x : ℕ). (x * value c.args.r) % prime) (added _ _ _ _ _ _ _ _ _ _);
 }

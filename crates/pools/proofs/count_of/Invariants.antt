@@ -1,12 +1,7 @@
--- The cards that are left, and those counted before them, by count_next.
-use Rattle.scheme.specs.Pools.{cut_fault, cut}
-use lib.ListN.{length, drop}
-use mathlib.Core.Path.{◌≡◌}
-use Prim.Native.Nat.{◌+◌, ◌-◌, ◌≤◌}
+-- The cards that are left, and those counted before them.
+use Rattle.std.proofs.Common.{◌≡◌, ◌+◌, length}
+use Rattle.scheme.specs.Pools.{cut, read_all}
 use Rattle.pools.proofs.count_of.Given as goal
 
-abbrev pub invariant-loop-at : goal.invariant-loop-at
-invariant-loop-at l = (l.at ≤ length l.cards) × (cut_fault (drop l.at l.cards) ≡ 0) × (l.count + length (cut (drop l.at l.cards)) ≡ length (cut l.cards)) × (l.count ≤ l.at)
-
-abbrev pub decreases-loop-at : goal.decreases-loop-at
-decreases-loop-at l = length l.cards - l.at
+abbrev pub invariant-loop-card : goal.invariant-loop-card
+invariant-loop-card l = l.count + length (read_all (cut l._card-iterator.bytes.now)) ≡ length (read_all (cut l.fn.cards.bytes.now))

@@ -1,13 +1,11 @@
--- What is left to ask stays, card by card, by distinct-next.
-use Rattle.scheme.specs.Pools.{cut_fault, cut, read_all}
+-- What is left to ask stays, card by card.
+use Rattle.std.proofs.Common.{◌≡◌, length}
+use Rattle.scheme.specs.Pools.{cut, read_all}
 use Rattle.scheme.specs.Pools as P
-use lib.ListN.{length, drop}
-use mathlib.Core.Path.{◌≡◌}
-use Prim.Native.Nat.{◌-◌, ◌≤◌}
 use Rattle.pools.proofs.distinct.Given as goal
 
-abbrev pub invariant-loop-at : goal.invariant-loop-at
-invariant-loop-at l = (l.at ≤ length l.cards) × (cut_fault (drop l.at l.cards) ≡ 0) × (P.distinct (read_all (cut l.cards)) ≡ P.distinct (read_all (cut (drop l.at l.cards))))
+abbrev pub invariant-loop-c : goal.invariant-loop-c
+invariant-loop-c l = P.distinct (read_all (cut l.fn.cards.bytes.now)) ≡ P.distinct (read_all (cut l.rest.bytes.now))
 
-abbrev pub decreases-loop-at : goal.decreases-loop-at
-decreases-loop-at l = length l.cards - l.at
+abbrev pub decreases-loop-c : goal.decreases-loop-c
+decreases-loop-c l = length (read_all (cut l.rest.bytes.now))

@@ -1,13 +1,11 @@
--- What is left to ask stays, card by card, by every-next.
+-- What is left to ask stays, card by card.
+use Rattle.std.proofs.Common.{◌≡◌, length}
 use Rattle.scheme.specs.Pools.{cut_fault, cut, every}
 use Rattle.scheme.specs.Records.{card_head}
-use lib.ListN.{length, drop}
-use mathlib.Core.Path.{◌≡◌}
-use Prim.Native.Nat.{◌-◌, ◌≤◌}
 use Rattle.pools.proofs.heads_fit.Given as goal
 
-abbrev pub invariant-loop-at : goal.invariant-loop-at
-invariant-loop-at l = (l.at ≤ length l.cards) × (cut_fault (drop l.at l.cards) ≡ 0) × (every card_head (cut l.cards) ≡ every card_head (cut (drop l.at l.cards)))
+abbrev pub invariant-loop-rest : goal.invariant-loop-rest
+invariant-loop-rest l = (cut_fault l.rest ≡ 0) × (every card_head (cut l.bytes) ≡ every card_head (cut l.rest))
 
-abbrev pub decreases-loop-at : goal.decreases-loop-at
-decreases-loop-at l = length l.cards - l.at
+abbrev pub decreases-loop-rest : goal.decreases-loop-rest
+decreases-loop-rest l = length l.rest

@@ -11,5 +11,5 @@ unfolding clear_bytes
 returns c =
     let start = c.args in
     let s₁ = opened 15 3 (be 2 61 ++ (start.version ∷ [])) _ refl (head-long 61 start.version) c.put_head.ensures in
-    let s₂ = number 8 start.counter s₁ refl c.put_be8.ensures in
-    filled (number 4 start.token.0 s₂ refl c.put_be4.ensures)
+    let s₂ = number 8 start.counter s₁ refl c.put_be.ensures in
+    filled (number 4 start.token.0 s₂ refl c.put_be-2.ensures)

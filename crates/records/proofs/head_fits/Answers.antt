@@ -4,4 +4,4 @@ use Rattle.records.proofs.head_fits.Goals as goal
 
 pub returns : goal.returns
 returns c =
-    head-fits-is c.args.s.now c.args.len c.args.version c.be2.ensures.0 c.version_in.ensures
+    head-fits-is c.args.s.now c.args.len c.args.version c.be.ensures.0 c.version_in.ensures

@@ -3,13 +3,13 @@ use borrow.Author.Rules.{rules}
 use Rattle.records.proofs.MarkLaws.{fit_none, fit-again, fit-done}
 use Rattle.records.proofs.marks_fit.Goals as goal
 
-pub loop-i-init : goal.loop-i-init
-loop-i-init c = (search rules, fit_none _)
+pub loop-mark-init : goal.loop-mark-init
+loop-mark-init c = fit_none _
 
-pub loop-i-preserved : goal.loop-i-preserved
-loop-i-preserved c =
-    let l = c.loop-i in
-    (search rules, fit-again _ _ l.high l.i (search rules) l.invariant.1)
+pub loop-mark-preserved : goal.loop-mark-preserved
+loop-mark-preserved c =
+    let l = c.loop-mark in
+    fit-again _ _ l.high l.mark-index (search rules) l.invariant
 
 pub returns : goal.returns
-returns c = fit-done _ _ c.loop-i.high c.loop-i.i (search rules) c.loop-i.invariant.1
+returns c = fit-done _ _ c.loop-mark.high c.loop-mark.mark-index (search rules) c.loop-mark.invariant

@@ -10,5 +10,5 @@ pub returns : goal.returns
 unfolding nonce_bytes
 returns c =
     let start = c.args in
-    let s₁ = opened 12 8 (be 8 start.counter) _ refl (length-be 8 start.counter) c.put_be8.ensures in
-    filled (number 4 start.token.0 s₁ refl c.put_be4.ensures)
+    let s₁ = opened 12 8 (be 8 start.counter) _ refl (length-be 8 start.counter) c.put_be.ensures in
+    filled (number 4 start.token.0 s₁ refl c.put_be-2.ensures)

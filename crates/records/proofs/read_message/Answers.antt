@@ -8,6 +8,6 @@ unfolding message_of
 returns c =
     message-is c.args.s.now
     c.version_in.ensures
-    c.bytes8.ensures c.be4.ensures
-    c.be2.ensures.0 c.be4-2.ensures
-    c.be2-2.ensures.0 c.be4-3.ensures c.bytes32.ensures c.bytes32-2.ensures
+    c.bytes.ensures c.be.ensures.0
+    c.be-2.ensures.0 c.be-3.ensures.0
+    c.be-4.ensures.0 c.be-5.ensures.0 c.bytes-2.ensures c.bytes-3.ensures

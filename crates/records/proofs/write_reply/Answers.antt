@@ -17,6 +17,6 @@ returns c =
     opened 110 11 (be 2 108 ++ (c.args.version ∷ []) ++ c.args.id) c.args.s.now c.requires.0
     (front_long 108 c.args.version c.args.id id8)
     c.put_front.ensures in
-    let s₂ = number 4 c.args.token.0 s₁ refl c.put_be4.ensures in
+    let s₂ = number 4 c.args.token.0 s₁ refl c.put_be.ensures in
     let s₃ = field 32 c.args.digest s₂ refl dg32 c.put32.ensures in
     filled (field 63 c.args.rec.now s₃ refl c.requires.2 c.copy.ensures)

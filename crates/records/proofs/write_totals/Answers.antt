@@ -9,5 +9,5 @@ use Rattle.records.proofs.write_totals.Goals as goal
 pub returns : goal.returns
 unfolding totals_bytes
 returns c =
-    let s₁ = opened 16 8 (be 8 c.args.t.turns) c.args.s.now c.requires (length-be 8 c.args.t.turns) c.put_be8.ensures in
-    filled (number 8 c.args.t.hashes s₁ refl c.put_be8-2.ensures)
+    let s₁ = opened 16 8 (be 8 c.args.t.turns) c.args.s.now c.requires (length-be 8 c.args.t.turns) c.put_be.ensures in
+    filled (number 8 c.args.t.hashes s₁ refl c.put_be-2.ensures)

@@ -4,7 +4,9 @@ use Rattle.schedule.proofs.CalendarLaws.{date-within}
 use Rattle.schedule.proofs.allowed.Goals as goal
 
 pub weekday-requires : goal.weekday-requires
-weekday-requires c = date-within _ _ _ _ c.requires.0
+weekday-requires c =
+    let t = c.args.time in
+    date-within t.year t.month t.day t.minute c.requires
 
 pub returns : goal.returns
 unfolding allowed_at

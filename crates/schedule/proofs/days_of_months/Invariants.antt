@@ -1,11 +1,7 @@
--- `schedule::days_of_months` meets its contract. The loop's invariant: the sum is that of the first i months. The measure is the months left.
-use Prim.Native.Nat.{◌≤◌, ◌-◌}
+-- `schedule::days_of_months` meets its contract. The loop's invariant: the sum is that of the first i months.
 use mathlib.Core.Path.{◌≡◌}
 use Rattle.schedule.specs.Calendar.{days_of_months}
 use Rattle.schedule.proofs.days_of_months.Given as goal
 
 abbrev pub invariant-loop-i : goal.invariant-loop-i
-invariant-loop-i l = (l.i ≤ l.months) × (l.days ≡ days_of_months l.year l.i)
-
-abbrev pub decreases-loop-i : goal.decreases-loop-i
-decreases-loop-i l = l.months - l.i
+invariant-loop-i l = l.days ≡ days_of_months l.year l.i

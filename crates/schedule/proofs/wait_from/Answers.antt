@@ -1,4 +1,4 @@
--- `schedule::wait_from` meets its contract. The loop's invariant: no minute of the days passed is allowed. The measure is the days left.
+-- `schedule::wait_from` meets its contract. The loop's invariant: no minute of the days passed is allowed.
 use Prim.Native.Nat.{◌+◌, ◌*◌}
 use mathlib.Core.Path.{◌≡◌, sym, subst, ◌∙◌}
 use mathlib.Core.Bool.{not}
@@ -9,11 +9,10 @@ use Rattle.schedule.proofs.wait_from.Goals as goal
 
 pub returns-then-in_window : goal.returns-then-in_window
 returns-then-in_window c =
-    (sym (at_once c.args.plan.now c.args.w c.args.m c.requires.1 c.requires.2 (sym c.in_window.ensures ∙ c.if-in_window.true)), omega arith)
+    (sym (at_once c.args.plan.now c.args.w c.args.m c.requires.0 c.requires.1 (sym c.in_window.ensures ∙ c.if-in_window.true)), omega arith)
 
 pub loop-k-init : goal.loop-k-init
-loop-k-init c =
-    (omega arith, quiet-start c.args.plan.now c.args.w c.args.m c.requires.1 c.requires.2 (sym c.in_window.ensures ∙ c.if-in_window.false))
+loop-k-init c = quiet-start c.args.plan.now c.args.w c.args.m c.requires.0 c.requires.1 (sym c.in_window.ensures ∙ c.if-in_window.false)
 
 pub overflow_sub-result : goal.overflow_sub-result
 overflow_sub-result c =
@@ -26,8 +25,8 @@ returns-then-s-end_of c =
     let start = c.start_of-s in
     let end = c.end_of in
     let day = c.loop-k in
-    found_at c.args.plan.now c.args.w c.args.m c.requires.3 c.requires.1 c.requires.2 day.k start.result end.result
-    c.loop-k-test.true day.invariant.1 start.ensures.0 end.ensures
+    found_at c.args.plan.now c.args.w c.args.m c.requires.2 c.requires.0 c.requires.1 day.k start.result end.result
+    c.loop-k-test.true day.invariant start.ensures.0 end.ensures
     c.if-s-end_of.true
 
 pub loop-k-preserved : goal.loop-k-preserved
@@ -35,13 +34,11 @@ loop-k-preserved c =
     let start = c.start_of-s in
     let end = c.end_of in
     let day = c.loop-k in
-    let quiet =
-    passed-at c.args.plan.now c.args.w c.args.m c.requires.3 c.requires.1 c.requires.2 day.k start.result end.result day.invariant.1
-    start.ensures.0 end.ensures c.if-s-end_of.false in
-    (omega arith, quiet)
+    passed-at c.args.plan.now c.args.w c.args.m c.requires.2 c.requires.0 c.requires.1 day.k start.result end.result day.invariant
+    start.ensures.0 end.ensures c.if-s-end_of.false
 
 pub returns : goal.returns
 returns c =
     let all : c.loop-k.k ≡ 8 = omega arith in
-    let quiet = subst (λ k. Quiet c.args.plan.now c.args.w c.args.m (seen c.args.m k)) all c.loop-k.invariant.1 in
-    (sym (none_found c.args.plan.now c.args.w c.args.m c.requires.3 c.requires.1 c.requires.2 quiet), omega arith)
+    let quiet = subst (λ k. Quiet c.args.plan.now c.args.w c.args.m (seen c.args.m k)) all c.loop-k.invariant in
+    (sym (none_found c.args.plan.now c.args.w c.args.m c.requires.2 c.requires.0 c.requires.1 quiet), omega arith)

@@ -1,5 +1,6 @@
 -- Before token i the first i - 1 records are in place, by fill-turn; what is hashed is every block behind the mark of a live one, by contents-live.
 -- What was counted and the totals of the tokens from i on are the totals of all, by counted-more.
+use Prim.Native.Nat.{◌≤◌}
 use native.Mathlib.Omega.{arith}
 use borrow.Author.Rules.{rules}
 use mathlib.Core.Path.{refl}
@@ -17,8 +18,6 @@ use Rattle.set_ups.proofs.fill_table.Goals as goal
 pub loop-i-init : goal.loop-i-init
 loop-i-init c =
     let k = c.args.c in (
-      search rules,
-      search rules,
       search rules,
       search rules,
       filled-start (new_record c.args.keys.w c.args.keys.z c.args.keys.k k.version k.rows k.positions (alike (live k.version) (pieces k.block_bytes k.blocks c.args.blocks.now))) k.tokens c.args.table.now,
@@ -51,7 +50,7 @@ overflow_add-turns c =
     let more = turns-of w k.rows k.positions l.i c.token_key-draw_key.ensures c.digest-x.ensures.turns_value.0 in
     omega (
       arith,
-      (counted-more (turns_of w k.rows k.positions) k.tokens l.turns l.i _ l.invariant.5 c.loop-i-test.true more).0,
+      (counted-more (turns_of w k.rows k.positions) k.tokens l.turns l.i _ l.invariant.3 (omega arith) more).0,
       digests-turns-most standard (token_key w) k.rows k.positions k.tokens 1 c.requires.version_bound.1 c.requires.version_bound.2 c.requires.positions_le_rows.0 c.requires.positions_le_rows.1 c.requires.positions_le_rows.2,
     )
 
@@ -63,33 +62,27 @@ overflow_add-hashes c =
     let more = hashes-of w k.rows k.positions l.i c.token_key-draw_key.ensures k.blocks c.digest-x.ensures.turns_value.1 in
     omega (
       arith,
-      (counted-more (hashes_of w k.rows k.positions k.blocks) k.tokens l.hashes l.i _ l.invariant.6 c.loop-i-test.true more).0,
+      (counted-more (hashes_of w k.rows k.positions k.blocks) k.tokens l.hashes l.i _ l.invariant.4 (omega arith) more).0,
       digests-hashes-most standard (token_key w) k.rows k.positions k.tokens 1 c.requires.version_bound.1 c.requires.version_bound.2 c.requires.positions_le_rows.0 c.requires.positions_le_rows.1 c.requires.positions_le_rows.2 k.blocks c.requires.version_bound.4,
     )
-
-pub overflow_add-i : goal.overflow_add-i
-overflow_add-i c =
-    omega (arith, c.loop-i-test.true, c.requires.positions_le_rows.2)
 
 pub loop-i-preserved : goal.loop-i-preserved
 loop-i-preserved c =
     let l = c.loop-i in
     let k = c.args.c in
-    let on = c.loop-i-test.true in
+    let on : l.i ≤ k.tokens = omega arith in
     let b : Span = record { rows = k.rows; size = k.block_bytes; count = k.blocks; mark = c.marks_in.result; step = 0 } in
     let t =
     fill-turn c.args.keys.w c.args.keys.z c.args.keys.k k.version k.rows k.positions (alike (live k.version) (pieces k.block_bytes k.blocks c.args.blocks.now))
-    k.tokens l.i l.table l.invariant.2 l.invariant.4 _ _ _ _ _ l.invariant.0 on c.token_key-draw_key.ensures c.token_key-hash_key.ensures
+    k.tokens l.i l.table l.invariant.0 l.invariant.2 _ _ _ _ _ l.auto.i on c.token_key-draw_key.ensures c.token_key-hash_key.ensures
     (contents-live k.version b c.args.blocks.now refl c.marks_in.ensures.0) c.digest-x.ensures.digest_value c.seal_token.ensures in
     let w = c.args.keys.w in (
-      search rules,
-      search rules,
       t.0,
-      l.invariant.3,
+      l.invariant.1,
       t.1,
-      (counted-more (turns_of w k.rows k.positions) k.tokens l.turns l.i _ l.invariant.5 on
+      (counted-more (turns_of w k.rows k.positions) k.tokens l.turns l.i _ l.invariant.3 on
           (turns-of w k.rows k.positions l.i c.token_key-draw_key.ensures c.digest-x.ensures.turns_value.0)).1,
-      (counted-more (hashes_of w k.rows k.positions k.blocks) k.tokens l.hashes l.i _ l.invariant.6 on
+      (counted-more (hashes_of w k.rows k.positions k.blocks) k.tokens l.hashes l.i _ l.invariant.4 on
           (hashes-of w k.rows k.positions l.i c.token_key-draw_key.ensures k.blocks c.digest-x.ensures.turns_value.1)).1,
     )
 
@@ -99,9 +92,9 @@ returns c =
     let w = c.args.keys.w in
     let l = c.loop-i in record {
       table_after = fill_end w c.args.keys.z c.args.keys.k k.version k.rows k.positions (alike (live k.version) (pieces k.block_bytes k.blocks c.args.blocks.now))
-          k.tokens l.i l.table l.invariant.2 l.invariant.4 c.loop-i-test.false l.invariant.1;
+          k.tokens l.i l.table l.invariant.0 l.invariant.2 (omega arith) (omega arith);
       turns_value = (
-        counted-end (turns_of w k.rows k.positions) k.tokens l.turns l.i l.invariant.5 c.loop-i-test.false,
-        counted-end (hashes_of w k.rows k.positions k.blocks) k.tokens l.hashes l.i l.invariant.6 c.loop-i-test.false,
+        counted-end (turns_of w k.rows k.positions) k.tokens l.turns l.i l.invariant.3 (omega arith),
+        counted-end (hashes_of w k.rows k.positions k.blocks) k.tokens l.hashes l.i l.invariant.4 (omega arith),
       );
     }

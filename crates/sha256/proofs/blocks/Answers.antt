@@ -1,20 +1,16 @@
--- After k turns the hash value is that of k blocks, by chain-turn.
-use Rattle.std.proofs.Common.{arith, length-drop, length-take, rules}
-use Rattle.sha256.proofs.StreamLaws.{chain-turn, chain-done, chain-none}
+-- A block's turn takes it from what is left, by chain-block; what is left at the end holds none, by chain-over.
+use Rattle.std.proofs.Common.{◌∙◌, arith, sym}
+use Rattle.sha256.proofs.StreamLaws.{chain-block, chain-over}
 use Rattle.sha256.proofs.blocks.Goals as goal
 
-pub loop-k-init : goal.loop-k-init
-loop-k-init c = (search rules, chain-none _ _)
-
-pub compress-u-requires : goal.compress-u-requires
-compress-u-requires c = simp (length-take, length-drop) (omega arith)
-
-pub loop-k-preserved : goal.loop-k-preserved
-loop-k-preserved c =
-    let l = c.loop-k in
-    (search rules, chain-turn l.k _ _ _ _ l.invariant.1 c.compress-u.ensures)
+pub loop-block-preserved : goal.loop-block-preserved
+loop-block-preserved c =
+    let inv = c.loop-block.invariant in
+    let step = c.in-Some.ensures.steps in
+    (step.0 ∙ inv.0, chain-block _ _ _ _ _ step.1.0 (step.1.1 ∙ inv.0) c.compress.ensures ∙ inv.1)
 
 pub returns : goal.returns
 returns c =
-    let l = c.loop-k in
-    chain-done l.k _ _ _ _ l.invariant.0 c.loop-k-test.false l.invariant.1
+    let inv = c.loop-block.invariant in
+    let step = c.in-None.ensures.steps in
+    sym (chain-over _ _ (omega (arith, step.1.0, inv.0))) ∙ inv.1

@@ -1,10 +1,10 @@
--- After k turns the hash value is that of k blocks, by chain-turn.
-use Rattle.std.proofs.Common.{◌≡◌, ◌-◌, ◌≤◌}
+-- The blocks that are left give, from the hash value so far, what all of them give.
+use Rattle.std.proofs.Common.{◌≡◌, ◌/◌, length}
+use Rattle.std.specs.Slice.Iter.{chunks_exact_rest, chunks_exact_size}
 use Rattle.sha256.specs.Sha256.{chain}
 use Rattle.sha256.proofs.blocks.Given as goal
 
-abbrev pub invariant-loop-k : goal.invariant-loop-k
-invariant-loop-k l = (l.k ≤ l.n) × (l.v ≡ chain l.k l.initial.v l.piece)
-
-abbrev pub decreases-loop-k : goal.decreases-loop-k
-decreases-loop-k l = l.n - l.k
+abbrev pub invariant-loop-block : goal.invariant-loop-block
+invariant-loop-block l =
+    let rest = chunks_exact_rest l.block-iterator in
+    (chunks_exact_size l.block-iterator ≡ 64) × (chain (length rest / 64) l.h rest ≡ chain (length l.piece / 64) l.initial.h l.piece)

@@ -4,4 +4,4 @@ use Rattle.std.proofs.Common.{rules}
 use Rattle.sha256.proofs.pad.Goals as goal
 
 pub returns : goal.returns
-returns c = (search rules, padded c.args.total _ c.put_be8.ensures)
+returns c = (search rules, padded c.args.total _ c.put_be.ensures)

@@ -1,16 +1,10 @@
 -- The first i words stand in the array, by first_step and next-step.
-use Rattle.std.proofs.Common.{◌≡◌, ◌-◌, ◌≤◌, length, take}
+use Rattle.std.proofs.Common.{◌≡◌, length, take}
 use Rattle.sha256.specs.Sha256 as S
 use Rattle.sha256.proofs.schedule.Given as goal
 
 abbrev pub invariant-loop-i : goal.invariant-loop-i
-invariant-loop-i l = (l.i ≤ 16) × (length l.w ≡ 64) × (take l.i l.w ≡ S.schedule l.block l.i)
-
-abbrev pub decreases-loop-i : goal.decreases-loop-i
-decreases-loop-i l = 16 - l.i
+invariant-loop-i l = (length l.w ≡ 64) × (take l.i l.w ≡ S.schedule l.block l.i)
 
 abbrev pub invariant-loop-i-2 : goal.invariant-loop-i-2
-invariant-loop-i-2 l = (16 ≤ l.i) × (l.i ≤ 64) × (length l.w ≡ 64) × (take l.i l.w ≡ S.schedule l.block l.i)
-
-abbrev pub decreases-loop-i-2 : goal.decreases-loop-i-2
-decreases-loop-i-2 l = 64 - l.i
+invariant-loop-i-2 l = (length l.w ≡ 64) × (take l.i l.w ≡ S.schedule l.block l.i)

@@ -1,7 +1,7 @@
 -- Two rotations, a shift and two xors, as the definition has them.
-use Rattle.sha256.specs.Sha256.{σ0, shr}
+use Rattle.sha256.specs.Sha256.{σ0, rotr, shr}
 use Rattle.sha256.proofs.small0.Goals as goal
 
 pub returns : goal.returns
-unfolding σ0 shr
+unfolding σ0 rotr shr
 returns c = cc

@@ -1,10 +1,13 @@
 -- Sixteen words in turn, by next16-is.
+use Rattle.std.proofs.Common.{rules}
+use Rattle.sha256_lanes.specs.Rounds.{next_word}
 use Rattle.sha256_lanes.proofs.WordLaws.{next16-is}
 use Rattle.sha256_lanes.proofs.next16.Goals as goal
 
 pub returns : goal.returns
+unfolding next_word
 returns c =
-    next16-is _ c.well_formed.0.1.0.1 _ _ _ _ _ _ _ _ _ _ _ _ _ _ _ _
+    next16-is _ (search rules) _ _ _ _ _ _ _ _ _ _ _ _ _ _ _ _
     c.next-n0.ensures
     c.next-n1.ensures
     c.next-n2.ensures

@@ -1,21 +1,13 @@
 -- After k turns the first k lanes are sixteen rounds on, by ran-turn.
-use borrow.Author.Rules.{rules}
-use Rattle.sha256_lanes.proofs.LoopLaws.{ran-none, ran-turn, ran-done}
+use Rattle.std.proofs.Common.{arith}
+use Rattle.sha256_lanes.proofs.LoopLaws.{words-are, sixteen, ran-none, ran-turn, ran-done}
 use Rattle.sha256_lanes.proofs.rounds_each.Goals as goal
 
 pub loop-k-init : goal.loop-k-init
-loop-k-init c = (search rules, ran-none _ _ _)
+loop-k-init c = ran-none _ _ _
 
 pub loop-k-preserved : goal.loop-k-preserved
-loop-k-preserved c =
-    let l = c.loop-k in (
-      search rules,
-      ran-turn _ l.k _ _ _ _ _ _ _ _ l.invariant.1 c.round_words-q.ensures
-          c.lane8-x.ensures c.lane16-z.ensures c.rounds16-y.ensures
-          c.put_lane8.ensures,
-    )
+loop-k-preserved c = ran-turn _ c.loop-k.k _ _ _ _ _ _ _ _ c.loop-k.invariant (words-are c.args.t) c.lane-v.ensures c.lane-x.ensures (sixteen _ _ _ _ _ c.rounds8.ensures c.rounds8-in-loop-k.ensures) c.put_lane.ensures
 
 pub returns : goal.returns
-returns c =
-    let l = c.loop-k in
-    ran-done _ l.k _ _ _ _ l.invariant.0 c.loop-k-test.false l.invariant.1
+returns c = ran-done _ c.loop-k.k _ _ _ _ (omega arith) (omega arith) c.loop-k.invariant

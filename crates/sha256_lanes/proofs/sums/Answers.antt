@@ -1,17 +1,15 @@
 -- After j turns the first j words are sums, by sums-turn.
-use borrow.Author.Rules.{rules}
+use Rattle.std.proofs.Common.{refl, arith}
+use Rattle.sha256.specs.Sha256.{◌⊞◌}
 use Rattle.sha256_lanes.proofs.LoopLaws.{sums_none, sums-turn, sums-done}
 use Rattle.sha256_lanes.proofs.sums.Goals as goal
 
 pub loop-j-init : goal.loop-j-init
-loop-j-init c = (search rules, sums_none _ _)
+loop-j-init c = sums_none _ _
 
 pub loop-j-preserved : goal.loop-j-preserved
-loop-j-preserved c =
-    let l = c.loop-j in
-    (search rules, sums-turn l.j _ _ _ _ l.invariant.1 c.add.ensures)
+unfolding ◌⊞◌
+loop-j-preserved c = sums-turn c.loop-j.j _ _ _ _ c.loop-j.invariant refl
 
 pub returns : goal.returns
-returns c =
-    let l = c.loop-j in
-    sums-done l.j _ _ _ l.invariant.0 c.loop-j-test.false l.invariant.1
+returns c = sums-done c.loop-j.j _ _ _ (omega arith) (omega arith) c.loop-j.invariant

@@ -6,7 +6,4 @@ use Rattle.sha256_many.specs.Split.{Chained}
 use Rattle.sha256_many.proofs.blocks_each.Given as goal
 
 abbrev pub invariant-loop-k : goal.invariant-loop-k
-invariant-loop-k l = (l.k ≤ l.blocks) × (length l.v ≡ 128) × (length l.w ≡ 256) × Chained l.p l.at l.a (l.blocks * 64) l.l l.k l.initial.v l.v
-
-abbrev pub decreases-loop-k : goal.decreases-loop-k
-decreases-loop-k l = l.blocks - l.k
+invariant-loop-k l = (length l.v ≡ 128) × (length l.w ≡ 256) × Chained l.p l.at l.a (l.blocks * 64) l.l l.k l.initial.v l.v

@@ -1,7 +1,7 @@
 -- The lane is read and turned into bytes.
-use mathlib.Core.Path.{ap, ◌∙◌}
+use Rattle.std.proofs.Common.{ap, ◌∙◌}
 use Rattle.sha256.specs.Sha256 as S
 use Rattle.sha256_many.proofs.digest_of.Goals as goal
 
 pub returns : goal.returns
-returns c = c.digest.ensures ∙ ap S.digest c.lane8-h.ensures
+returns c = c.digest.ensures ∙ ap S.digest c.lane.ensures

@@ -7,11 +7,10 @@ use Rattle.sha256_many.proofs.hash_each.Goals as goal
 
 pub blocks_each-requires : goal.blocks_each-requires
 blocks_each-requires c =
-    (c.round_constants-keys.ensures, c.requires.0, places-inside c.args.p.now _ c.args.n 64 c.args.l c.requires.0 c.requires.1 c.requires.3 c.places-own.ensures, search rules, search rules, refl)
+    (c.requires.0, places-inside c.args.p.now _ c.args.n 64 c.args.l c.requires.0 c.requires.1 c.requires.3 c.places-own.ensures, search rules, search rules, refl)
 
 pub blocks_each-requires-2 : goal.blocks_each-requires-2
 blocks_each-requires-2 c = (
-  c.round_constants-keys.ensures,
   c.requires.0,
   record { fits = λ i h. omega (arith, c.requires.5.fits i h, c.requires.4) },
   search rules,
@@ -21,7 +20,6 @@ blocks_each-requires-2 c = (
 
 pub blocks_each-requires-3 : goal.blocks_each-requires-3
 blocks_each-requires-3 c = (
-  c.round_constants-keys.ensures,
   c.requires.0,
   places-inside c.args.p.now _ c.args.n _ c.args.l c.requires.0 (omega (arith, c.requires.1, c.requires.2)) c.requires.3 c.places-own.ensures,
   search rules,

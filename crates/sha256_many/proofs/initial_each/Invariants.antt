@@ -5,7 +5,4 @@ use Rattle.sha256_many.proofs.ManyLaws.{filled}
 use Rattle.sha256_many.proofs.initial_each.Given as goal
 
 abbrev pub invariant-loop-k : goal.invariant-loop-k
-invariant-loop-k l = (l.k ≤ 16) × (l.s ≡ filled l.h l.k l.initial.s)
-
-abbrev pub decreases-loop-k : goal.decreases-loop-k
-decreases-loop-k l = 16 - l.k
+invariant-loop-k l = l.s ≡ filled l.h l.k l.initial.s

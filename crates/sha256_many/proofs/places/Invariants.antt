@@ -5,7 +5,4 @@ use lib.ListN.{length, get_or}
 use Rattle.sha256_many.proofs.places.Given as goal
 
 abbrev pub invariant-loop-k : goal.invariant-loop-k
-invariant-loop-k l = (l.k ≤ 16) × (length l.at ≡ 16) × ((i : ℕ) → i < l.k → get_or l.at i 0 ≡ i * l.n)
-
-abbrev pub decreases-loop-k : goal.decreases-loop-k
-decreases-loop-k l = 16 - l.k
+invariant-loop-k l = (length l.at ≡ 16) × ((i : ℕ) → i < l.k → get_or l.at i 0 ≡ i * l.n)

@@ -1,42 +1,30 @@
--- The padding, of what is hashed in the version, is lent as far as it goes.
-use borrow.Author.Rules.{rules}
+-- Before the first stretch the queue stands for no change.
 use native.Mathlib.Omega.{arith}
-use Prim.Native.Nat.{ℕ, ◌+◌}
+use Prim.Native.Nat.{ℕ, ◌-◌}
 use mathlib.Core.Path.{◌≡◌, sym, ap, subst, ◌∙◌}
-use lib.ListN.{length, take}
-use lib.Seq.{length-take-le}
-use Rattle.sha256.specs.Sha256.{padding}
-use Rattle.hash_queue.specs.Waiting.{Cut}
-use Rattle.token_updates.proofs.by_blocks.Goals.{After-pad-padding}
+use mathlib.Core.List.{List}
+use Rattle.scheme.specs.Totals.{token_turns}
+use Rattle.standard.specs.Standard.{standard}
+use Rattle.tokens.specs.Keyed.{token_key}
+use Rattle.token_updates.specs.Runs.{firsts, Hashed}
+use Rattle.token_updates.proofs.ItemLaws.{walked_none, hashed-none, hashed-at}
 use Rattle.token_updates.proofs.by_blocks.Goals as goal
 
-bytes-long : (c : After-pad-padding) → length c.pad-padding.result.bytes ≡ 72
-bytes-long c = search rules
-
-pad-long : (c : After-pad-padding) → length (take c.pad-padding.result.len c.pad-padding.result.bytes) ≡ c.pad-padding.result.len
-pad-long c = length-take-le c.pad-padding.result.len c.pad-padding.result.bytes (omega (arith, c.pad-padding.ensures.0, bytes-long c))
-
-pub form_of-f-requires : goal.form_of-f-requires
-form_of-f-requires c =
-    (omega (arith, c.head_bytes-h.ensures.1), c.requires.0.small, sym (pad-long (goal.at.form_of-f-requires c).After-pad-padding) ∙ ap length c.pad-padding.ensures.1)
-
-pub slice_bounds-bytes-end : goal.slice_bounds-bytes-end
-slice_bounds-bytes-end c =
-    omega (arith, c.pad-padding.ensures.0, bytes-long (goal.at.slice_bounds-bytes-end c).After-pad-padding)
-
-pub slice_bounds-several_in-end : goal.slice_bounds-several_in-end
-slice_bounds-several_in-end c = sym (pad-long (goal.at.slice_bounds-several_in-end c).After-pad-padding)
-
-pub several_in-requires : goal.several_in-requires
-several_in-requires c =
-    let B = c.args.changes.size in (
-      c.requires.0,
-      c.requires.1,
-      record {
-        cut = subst (λ (n : ℕ). Cut c.form_of-f.result n B) c.head_bytes-h.ensures.0 c.form_of-f.ensures;
-        padded = c.pad-padding.ensures.1 ∙ ap (λ (n : ℕ). padding (n + B)) c.head_bytes-h.ensures.0;
-        whole = c.requires.4;
-      },
-      c.requires.2,
-      c.requires.3,
+pub loop-left-init : goal.loop-left-init
+loop-left-init c =
+    let a = c.args in
+    let b = a.several.now in
+    let w = b.changes in
+    let none : 0 ≡ w.count - w.count = omega arith in
+    let start = c.restart.ensures b.kind.form b.bytes.now in (
+      omega arith,
+      (λ key e. absurd (cc)),
+      omega arith,
+      omega arith,
+      start.0,
+      λ k ew. (
+        subst (λ (y : List ℕ). Hashed k (token_key a.z a.i.0) w b.bytes.now (w.count - w.count) a.x y 0) (sym start.1)
+            (hashed-at (w.count - w.count) none (hashed-none w b.bytes.now k (token_key a.z a.i.0) a.x)),
+        walked_none w b.bytes.now k w.rows ∙ ap (λ (n : ℕ). token_turns standard k w.rows (firsts w b.bytes.now n)) none,
+      ),
     )

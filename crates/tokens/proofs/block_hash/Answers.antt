@@ -5,4 +5,4 @@ use Rattle.tokens.proofs.block_hash.Goals as goal
 pub returns : goal.returns
 returns c =
     let a = c.args in
-    hash-whole a.c a.mark.now a.block.now _ _ _ a.index c.requires.0 c.put_be4.ensures c.copy.ensures c.hash.ensures
+    hash-whole a.c a.content.mark.now a.content.block.now _ _ _ a.index a.content.lone c.put_be.ensures c.copy.ensures c.hash.ensures

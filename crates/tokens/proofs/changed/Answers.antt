@@ -1,9 +1,8 @@
 -- The position of the block's row by position-drawn, the turns by turns-taken; the digest stays by undrawn, or takes the hashes by drawn.
 use native.Mathlib.Omega.{arith}
 use mathlib.Core.Path.{ap, ◌∙◌}
-use mathlib.Core.List.{◌++◌}
 use Rattle.chacha20.specs.ChaCha20.{key_words}
-use Rattle.tokens.specs.Keyed.{token_key, block_change_of}
+use Rattle.tokens.specs.Keyed.{token_key, change_from}
 use Rattle.tokens.proofs.ChangeLaws.{position-drawn, turns-taken, undrawn, drawn}
 use Rattle.tokens.proofs.changed.Goals as goal
 
@@ -12,7 +11,7 @@ returns-then-positions-walk c =
     let a = c.args in
     let k = token_key a.w a.i.0 in
     let words = c.key_words-words.ensures ∙ ap key_words c.token_key-k.ensures in
-    undrawn k (token_key a.z a.i.0) a.rows a.positions a.m.0 _ _ (block_change_of a.fresh (a.old_mark.now ++ a.old.now) (a.new_mark.now ++ a.new.now)) a.x
+    undrawn k (token_key a.z a.i.0) a.rows a.positions a.m.0 _ _ (change_from a.old a.new) a.x
     (position-drawn k _ a.rows a.m.0 _ _ words c.row_of-row.ensures.0 c.backward-walk.ensures.value_value.0)
     (turns-taken k _ a.rows a.m.0 _ _ words c.row_of-row.ensures.0 c.backward-walk.ensures.value_value.1)
     c.if-positions-walk.true
@@ -22,7 +21,7 @@ returns c =
     let a = c.args in
     let k = token_key a.w a.i.0 in
     let words = c.key_words-words.ensures ∙ ap key_words c.token_key-k.ensures in
-    drawn k (token_key a.z a.i.0) a.rows a.positions a.m.0 _ _ (block_change_of a.fresh (a.old_mark.now ++ a.old.now) (a.new_mark.now ++ a.new.now)) a.x
+    drawn k (token_key a.z a.i.0) a.rows a.positions a.m.0 _ _ (change_from a.old a.new) a.x
     (position-drawn k _ a.rows a.m.0 _ _ words c.row_of-row.ensures.0 c.backward-walk.ensures.value_value.0)
     (turns-taken k _ a.rows a.m.0 _ _ words c.row_of-row.ensures.0 c.backward-walk.ensures.value_value.1)
     _ _ _ _ _
@@ -31,4 +30,4 @@ returns c =
     c.column_of-column.ensures.0
     c.index_of-index.ensures
     c.mixed-y.ensures
-    (c.hashes_in.ensures.0 _ _)
+    c.hashes_in.ensures.0

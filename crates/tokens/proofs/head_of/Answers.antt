@@ -5,4 +5,4 @@ use Rattle.tokens.proofs.head_of.Goals as goal
 
 pub returns : goal.returns
 returns c =
-    head-whole c.args.c _ _ c.args.index c.args.mark (search rules) c.copy.ensures c.put_be4.ensures
+    head-whole c.args.c _ _ c.args.index c.args.mark (search rules) c.copy.ensures c.put_be.ensures

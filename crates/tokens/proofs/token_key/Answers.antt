@@ -11,4 +11,4 @@ use Rattle.tokens.proofs.token_key.Goals as goal
 pub returns : goal.returns
 unfolding token_key
 returns c =
-    c.hmac.ensures ∙ ap (keyed c.args.p) (c.put_be4.ensures ∙ put_whole (be 4 c.args.i.0) (replicate 4 0) (length-be 4 c.args.i.0))
+    c.hmac.ensures ∙ ap (keyed c.args.p) (c.put_be.ensures ∙ put_whole (be 4 c.args.i.0) (replicate 4 0) (length-be 4 c.args.i.0))

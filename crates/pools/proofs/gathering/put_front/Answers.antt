@@ -12,4 +12,4 @@ pub returns : goal.returns
 returns c =
     c.copy.ensures
     ∙ front-put (be 2 (35 + 75 * c.args.count) ++ (1 ∷ [])) (be 2 c.args.count) c.args.sum c.args.pooled.now _ _ (head-long (35 + 75 * c.args.count)) (length-be 2 c.args.count)
-    (omega arith) c.requires.0 c.put_head.ensures c.put_be2.ensures
+    (omega arith) c.requires.0 c.put_head.ensures c.put_be.ensures

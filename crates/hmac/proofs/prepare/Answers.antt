@@ -1,7 +1,0 @@
--- The two pads, each compressed.
-use Rattle.hmac.specs.Hmac.{prepared}
-use Rattle.hmac.proofs.prepare.Goals as goal
-
-pub returns : goal.returns
-unfolding prepared
-returns c = cc

@@ -1,9 +1,0 @@
--- Two times two bytes are put in place, by put-be-twice.
-use Rattle.octets.proofs.PartLaws.{put-be-twice}
-use mathlib.Core.Path.{◌∙◌}
-use Rattle.octets.proofs.put_be4.Goals as goal
-
-pub returns : goal.returns
-returns c =
-    c.put_be2-2.ensures
-    ∙ put-be-twice c.args.at c.args.s.now c.args.x _ 2 c.requires c.put_be2.ensures

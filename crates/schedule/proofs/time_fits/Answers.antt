@@ -1,7 +1,0 @@
--- `schedule::time_fits` meets its contract: its tests are those of the definition.
-use Rattle.schedule.specs.Calendar.{time_fits}
-use Rattle.schedule.proofs.time_fits.Goals as goal
-
-pub returns : goal.returns
-unfolding time_fits
-returns c = cc
