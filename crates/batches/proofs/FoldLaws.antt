@@ -40,7 +40,7 @@ module _ (v B k : ℕ) (items : List ℕ) where
 
   -- a test p of every item, by a definition that recurses from the front
   module _ (p : Item → Bool) (all : List Item → Bool) (none : all [] ≡ true) (more : (x : Item) (xs : List Item) → all (x ∷ xs) ≡ (p x && all xs)) where
-    all-begun : all (items_from v B k items) ≡ all (items_left v B k 0 items)
+    pub all-begun : all (items_from v B k items) ≡ all (items_left v B k 0 items)
     all-begun = ap all (sym left-all)
 
     step : (e : ℕ) → e < k → all (items_left v B k e items) ≡ (p (item_in v B e items) && all (items_left v B k (e + 1) items))
@@ -55,7 +55,7 @@ module _ (v B k : ℕ) (items : List ℕ) where
     pub all-each : (e : ℕ) → e < k → all (items_from v B k items) ≡ true → p (item_in v B e items) ≡ true
     all-each e h f = (both (p (item_in v B e items)) (all (items_left v B k (e + 1) items)) (sym (step e h) ∙ all_from e (omega arith) f)).0
 
-    all_done : (e : ℕ) → k ≤ e → all (items_left v B k e items) ≡ true
+    pub all_done : (e : ℕ) → k ≤ e → all (items_left v B k e items) ≡ true
     all_done e h = ap all (left-none e h) ∙ none
 
     listed_from : (n e : ℕ) → e + n ≡ k → list_all (λ (i : ℕ). p (item_in v B i items)) (range_with_len e n) ≡ all (items_left v B k e items)

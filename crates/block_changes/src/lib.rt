@@ -40,7 +40,7 @@ pub fn alone(changes: BlockChanges) -> bool
 }
 
 // How many bytes are hashed before a block: those of key and index, and its mark where it has one.
-fn head_bytes(version: u64) -> usize
+pub fn head_bytes(version: u64) -> usize
     ensures { (result ≡ 36 + marks_in version) × (result ≤ 37) }
 {
     36 + records::marks_in(version) as usize

@@ -34,7 +34,7 @@ pub row-end : (u i s : ℕ) (vs ds : List ℕ) → i ≡ length vs → plus s (r
 row-end u i s vs ds h e = sym (plus-zero-r s) ∙ ap (plus s) (sym (row-none u i vs (drop i ds) h)) ∙ e
 
 -- a list's rest, as a part is lent
-rest-is : (xs : List ℕ) → take (length xs - 1) (drop 1 xs) ≡ drop 1 xs
+pub rest-is : (xs : List ℕ) → take (length xs - 1) (drop 1 xs) ≡ drop 1 xs
 rest-is xs = take_all (length xs - 1) (drop 1 xs) (le_of_eq (length-drop 1 xs))
 
 pub solve-none : (us vs ss : List ℕ) → length us ≡ 0 → length ss ≡ 0 → ss ≡ solve us vs ss

@@ -3,15 +3,18 @@
 --   both-sides, at_most                       how many are chosen, and how many of those that are named
 --   enough                                    as many parity blocks are left as data are lost, where no more are named than there are parity blocks
 --   ranked, rank_lt, rank-next                the place of a lost number among the lost
+--   named_here, named_past, named_end         a search through the named
 use mathlib.Core.Path.{◌≡◌, refl, sym, ap, ap₂, ◌∙◌}
 use mathlib.Core.Bool.{Bool, true, false, cond, not}
 use mathlib.Core.List.{List, [], ◌∷◌}
 use Prim.Native.Nat.{ℕ, zero, suc, ◌+◌, ◌-◌, ◌<◌, ◌≤◌}
-use native.Mathlib.Nat.{add-zero, zero-add, add-suc, suc-add, mod-eq_of_lt}
+use native.Mathlib.Nat.{add-zero, zero-add, add-suc, suc-add, mod-eq_of_lt, le_refl}
+use native.Mathlib.Numerals.{add-one}
 use native.Mathlib.Omega.{arith}
-use borrow.Author.Tests.{eqb-true, ne_eqb}
+use borrow.Author.Tests.{eqb-true, eq-eqb, ne_eqb}
 use lib.Dec.{eqb}
-use lib.ListN.{get_or, length, take}
+use lib.ListN.{get_or, length, take, drop, drop_of_length-le}
+use lib.Seq.{drop-cons}
 use Rattle.cauchy.specs.System.{Off, Each, Distinct}
 use Rattle.gf256.specs.Field.{plus}
 use Rattle.erasure.specs.Group.{named, chosen}
@@ -137,3 +140,20 @@ rank_lt f n k h e =
     let q : n + 1 + c ≡ k = omega arith in
     let one : length (cond (f n) (n ∷ []) []) ≡ 1 = ap (λ (b : Bool). length (cond b (n ∷ []) [])) e in
     omega (arith, ap (λ (m : ℕ). length (chosen f 0 m)) q, joined f 0 (n + 1) c, rank-next f n, one)
+
+-- a search through the named
+pub named_here : (i n : ℕ) (ls : List ℕ) → i < length ls → get_or ls i 0 ≡ n → named (drop i ls) n ≡ true
+unfolding named
+named_here i n ls h e =
+    ap (λ (l : List ℕ). named l n) (drop-cons ls i 0 h)
+    ∙ ap (λ (b : Bool). cond b true (named (drop (suc i) ls) n)) (eq-eqb (get_or ls i 0) n e)
+
+pub named_past : (i n : ℕ) (ls : List ℕ) → i < length ls → (get_or ls i 0 ≡ n → ⊥) → named (drop (i + 1) ls) n ≡ named (drop i ls) n
+unfolding named
+named_past i n ls h e =
+    ap (λ (m : ℕ). named (drop m ls) n) (add-one i)
+    ∙ sym (ap (λ (l : List ℕ). named l n) (drop-cons ls i 0 h) ∙ ap (λ (b : Bool). cond b true (named (drop (suc i) ls) n)) (ne_eqb (get_or ls i 0) n e))
+
+pub named_end : (i n : ℕ) (ls : List ℕ) → i ≡ length ls → named (drop i ls) n ≡ false
+unfolding named
+named_end i n ls h = ap (λ (l : List ℕ). named l n) (ap (λ (m : ℕ). drop m ls) h ∙ drop_of_length-le ls (le_refl (length ls)))

@@ -182,7 +182,7 @@ impl Left<'_> {
             self.rebuild(i, cs, ws, acc);
             return i + 1;
         }
-        acc.copy_from_slice(self.blocks.block(n));
+        octets::copy(acc, 0, self.blocks.block(n));
         i
     }
 
@@ -207,5 +207,10 @@ impl Left<'_> {
 pub fn is_named(lost: &[u8], n: u8) -> bool
     ensures { result ≡ named lost.now n }
 {
-    lost.contains(&n)
+    for i in 0..lost.len() {
+        if lost[i] == n {
+            return true;
+        }
+    }
+    false
 }

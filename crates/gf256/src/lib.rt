@@ -98,9 +98,10 @@ impl Field {
     {
         let m = self.doubles_of(v);
         let n = self.doubles_of(w);
-        for (i, b) in block.iter().enumerate() {
-            one[i] ^= spread(*b, &m);
-            two[i] ^= spread(*b, &n);
+        for (i, x) in block.iter().enumerate() {
+            let b = *x;
+            one[i] ^= spread(b, &m);
+            two[i] ^= spread(b, &n);
         }
     }
 }

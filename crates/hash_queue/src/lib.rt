@@ -20,7 +20,7 @@ pub use kind::Kind;
 const PLACES: usize = 16;
 
 // The bytes of all places, of which one has 192 at the most.
-const ROOM: usize = 3072;
+pub const ROOM: usize = 3072;
 
 // A digest, and how many messages wait to be hashed into it.
 #[derive(Clone, Copy)]
@@ -68,7 +68,9 @@ fn places_of(at: &[usize; 16], fill: usize) -> [usize; 16]
     ensures { ((i : ℕ) → i < fill → get_or result i 0 ≡ get_or at.now i 0) × ((i : ℕ) → fill ≤ i → i < places → get_or result i 0 ≡ get_or at.now 0 0) }
 {
     let mut own = [at[0]; 16];
-    own[..fill].copy_from_slice(&at[..fill]);
+    for k in 0..fill {
+        own[k] = at[k];
+    }
     own
 }
 

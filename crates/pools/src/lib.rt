@@ -112,8 +112,10 @@ impl<'a> Iterator for Cards<'a> {
 fn count_of(cards: Cards) -> u64
     ensures { result ≡ length (cut cards.entry.bytes.now) }
 {
+    let mut rest = cards.bytes;
     let mut count: u64 = 0;
-    for _card in cards {
+    while !rest.is_empty() {
+        rest = split_first(rest).1;
         count += 1;
     }
     count
@@ -135,14 +137,18 @@ fn seen(cards: Cards) -> Answers
     all
 }
 
-// Whether no card is of a file.
-fn absent(cards: Cards, id: [u8; 8]) -> bool
-    ensures { result ≡ S.absent id (read_all (cut cards.entry.bytes.now)) }
+// Whether no card is of a file. The cards lie end to end.
+fn absent(bytes: &[u8], id: [u8; 8]) -> bool
+    requires { cut_fault bytes.now ≡ 0 }
+    ensures { result ≡ S.absent id (read_all (cut bytes.now)) }
 {
-    for c in cards {
-        if octets::same(&id, &c.id) {
+    let mut left = bytes;
+    while !left.is_empty() {
+        let (card, others) = split_first(left);
+        if octets::same(&id, &card[3..11]) {
             return false;
         }
+        left = others;
     }
     true
 }
@@ -151,11 +157,13 @@ fn absent(cards: Cards, id: [u8; 8]) -> bool
 fn distinct(cards: Cards) -> bool
     ensures { result ≡ S.distinct (read_all (cut cards.entry.bytes.now)) }
 {
-    let mut rest = cards;
-    while let Some(c) = rest.next() {
-        if !absent(rest, c.id) {
+    let mut rest = cards.bytes;
+    while !rest.is_empty() {
+        let (card, others) = split_first(rest);
+        if !absent(others, octets::bytes::<8>(card, 3)) {
             return false;
         }
+        rest = others;
     }
     true
 }

@@ -182,7 +182,7 @@ module _ (w : BlockChanges) (om old nm new : List ℕ) where
       go false el n en h = (el, en ∙ eqb-true n 1 h)
 
   -- a change that comes alone
-  one-item : alone w ≡ true → (w.first, block_change_of w.fresh (om ++ take w.size old) (nm ++ take w.size new)) ∷ [] ≡ items_of w om old nm new
+  pub one-item : alone w ≡ true → (w.first, block_change_of w.fresh (om ++ take w.size old) (nm ++ take w.size new)) ∷ [] ≡ items_of w om old nm new
   unfolding items_of items_below number_at block_change_at
   one-item one =
       let none : 0 * w.size ≡ 0 = zero-mul w.size in

@@ -18,6 +18,7 @@ ghost use Rattle.standard.specs.Standard.{standard};
 ghost use Rattle.tokens.specs.Keyed.{token_key, Done};
 ghost use Rattle.hash_queue.specs.Waiting.{Ready, held};
 ghost use Rattle.block_changes.specs.BlockChanges.{number_at, items_of, alone, Lent};
+ghost use Rattle.token_updates.specs.Blank.{Blank};
 ghost use Rattle.token_updates.specs.Runs.{firsts, Rows, Hashed, Made, Placed};
 
 mod loads;
@@ -36,7 +37,9 @@ pub struct Scratch {
 
 impl Scratch {
     // Scratch space that nothing was done in.
-    pub fn new() -> Scratch {
+    pub fn new() -> Scratch
+        ensures { Blank result }
+    {
         Scratch {
             table: [0; 8192],
             starts: [0; 256],
@@ -257,7 +260,7 @@ fn after_several(
 }
 
 // A token's digest x after all block changes, and its totals, under the keys W and Z prepared. `old_mark` and `new_mark` are the marks of a change that comes alone.
-// The scratch space is read and written only where there are several.
+// One scratch space is needed, read and written where there are several; a change that comes alone takes none.
 pub fn updated(
     w: hmac::Key,
     z: hmac::Key,
@@ -268,15 +271,16 @@ pub fn updated(
     new_mark: &[u8],
     new: &[u8],
     x: [u8; 32],
-    scratch: &mut Scratch,
+    scratch: &mut [Scratch],
 ) -> counts::DigestTotals
-    requires { Lent changes old_mark.now old.now new_mark.now new.now }
+    requires lent { Lent changes old_mark.now old.now new_mark.now new.now }
+    requires room { alone changes ≡ false → 1 ≤ length scratch.old }
     ensures { Done (token_key w i.0) (token_key z i.0) changes.rows changes.positions (items_of changes old_mark.now old.now new_mark.now new.now) x result }
 {
     let one = block_changes::alone(changes);
     if !one {
         let several = Several::new(changes, new);
-        return after_several(w, z, i, &several, x, scratch);
+        return after_several(w, z, i, &several, x, &mut scratch[0]);
     }
     let size = changes.size as usize;
     let m = counts::Block(changes.first);

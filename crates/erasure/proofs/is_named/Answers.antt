@@ -1,17 +1,21 @@
--- A number is named where it is one of the list.
-use Rattle.std.proofs.Common.{◌≡◌, ℕ, Bool, true, false, cond, ◌||◌, eqb, List, [], ◌∷◌, refl, ◌∙◌}
-use Rattle.std.specs.List.{list_any}
-use Rattle.erasure.specs.Group.{named}
+-- After i turns what is left of the list decides, by named_past.
+use mathlib.Core.Path.{sym, ◌∙◌}
+use native.Mathlib.Omega.{arith}
+use borrow.Author.Rules.{rules}
+use Rattle.erasure.proofs.ChoiceLaws.{named_here, named_past, named_end}
 use Rattle.erasure.proofs.is_named.Goals as goal
 
-any_named : (n : ℕ) (ls : List ℕ) → list_any (λ y. eqb y n) ls ≡ named ls n
-unfolding named
-any_named n [] = refl
-any_named n (l ∷ ls) = go (eqb l n) (any_named n ls)
-  where
-    go : (b : Bool) → list_any (λ y. eqb y n) ls ≡ named ls n → (b || list_any (λ y. eqb y n) ls) ≡ cond b true (named ls n)
-    go true e = refl
-    go false e = e
+pub returns-then-lost-i : goal.returns-then-lost-i
+returns-then-lost-i c =
+    let l = c.loop-i in
+    sym (named_here l.i c.args.n c.args.lost.now (search rules) (search rules)) ∙ l.invariant
+
+pub loop-i-preserved : goal.loop-i-preserved
+loop-i-preserved c =
+    let l = c.loop-i in
+    named_past l.i c.args.n c.args.lost.now (search rules) (search rules) ∙ l.invariant
 
 pub returns : goal.returns
-returns c = c.contains.ensures.value ∙ any_named c.args.n c.args.lost.now
+returns c =
+    let l = c.loop-i in
+    sym (named_end l.i c.args.n c.args.lost.now (omega arith)) ∙ l.invariant

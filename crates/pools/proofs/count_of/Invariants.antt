@@ -1,7 +1,10 @@
 -- The cards that are left, and those counted before them.
 use Rattle.std.proofs.Common.{◌≡◌, ◌+◌, length}
-use Rattle.scheme.specs.Pools.{cut, read_all}
+use Rattle.scheme.specs.Pools.{cut_fault, cut}
 use Rattle.pools.proofs.count_of.Given as goal
 
-abbrev pub invariant-loop-card : goal.invariant-loop-card
-invariant-loop-card l = l.count + length (read_all (cut l._card-iterator.bytes.now)) ≡ length (read_all (cut l.fn.cards.bytes.now))
+abbrev pub invariant-loop-rest : goal.invariant-loop-rest
+invariant-loop-rest l = (cut_fault l.rest ≡ 0) × (l.count + length (cut l.rest) ≡ length (cut l.cards.bytes.now))
+
+abbrev pub decreases-loop-rest : goal.decreases-loop-rest
+decreases-loop-rest l = length l.rest

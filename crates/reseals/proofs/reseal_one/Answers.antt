@@ -18,7 +18,7 @@ digest-long : (c : After-updated-y) → length c.updated-y.result.digest ≡ 32
 digest-long c = search rules
 
 pub updated-y-requires : goal.updated-y-requires
-updated-y-requires c = c.requires.version_bound.3
+updated-y-requires c = record { lent = c.requires.version_bound.3; room = c.requires.room }
 
 pub overflow_add-c : goal.overflow_add-c
 overflow_add-c c = omega (arith, c.requires.version_bound.1)

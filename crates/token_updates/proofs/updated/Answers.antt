@@ -14,7 +14,7 @@ returns-then-not-one c =
     let a = c.args in
     let m : alone a.changes ≡ false = sym c.alone-one.ensures ∙ c.if-not-one.true in
     subst (λ (changes : List (ℕ × BlockChange)). Done (token_key a.w a.i.0) (token_key a.z a.i.0) a.changes.rows a.changes.positions changes a.x c.after_several.result)
-    (all-items a.changes a.old_mark.now a.old.now a.new_mark.now a.new.now (λ l. ((c.requires.several m).added l).fresh) (c.requires.living m))
+    (all-items a.changes a.old_mark.now a.old.now a.new_mark.now a.new.now (λ l. ((c.requires.lent.several m).added l).fresh) (c.requires.lent.living m))
     (rw (c.new-several.ensures.0, c.new-several.ensures.1) at c.after_several.ensures)
 
 pub returns-then-changes : goal.returns-then-changes

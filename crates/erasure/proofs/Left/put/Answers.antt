@@ -1,6 +1,11 @@
 -- A lost block is rebuilt, by put-lost; a kept one is copied, by put-kept.
-use mathlib.Core.Path.{sym, ◌∙◌}
+use mathlib.Core.Path.{sym, ap, ◌∙◌}
+use Prim.Native.Nat.{◌*◌}
+use lib.ListN.{length}
 use native.Mathlib.Omega.{arith}
+use borrow.Author.Rules.{rules}
+use Rattle.octets.proofs.PartLaws.{put_whole}
+use Rattle.erasure.proofs.BlockLaws.{block_length}
 use Rattle.erasure.proofs.RebuildLaws.{rank-in, rank-lost, rank-kept, put-lost, put-kept}
 use Rattle.erasure.proofs.Left.put.Goals as goal
 
@@ -27,5 +32,5 @@ returns c =
     let s = c.args.self.now in
     let e = sym c.is_named.ensures ∙ c.if-is_named.false in record {
       value = rank-kept s.lost.now c.args.n c.args.i c.requires.n_lt_k.1 e;
-      put = put-kept s.blocks.size c.args.n s.lost.now s.us.now s.vs.now s.qs.now s.blocks.bytes.now _ _ e c.block.ensures c.copy_from_slice.ensures.after;
+      put = put-kept s.blocks.size c.args.n s.lost.now s.us.now s.vs.now s.qs.now s.blocks.bytes.now _ _ e c.block.ensures (c.copy.ensures ∙ put_whole c.block.result.now c.args.acc.now (ap length c.block.ensures ∙ block_length (c.args.n * s.blocks.size) s.blocks.size s.blocks.bytes.now (search rules) ∙ sym c.requires.acc_len));
     }

@@ -1,36 +1,42 @@
 -- A piece that leaves the block open, by short, or fills it, by long.
-use Rattle.std.proofs.Common.{◌≡◌, ◌+◌, ◌-◌, ◌*◌, ◌/◌, ◌%◌, ◌++◌, length, take, drop, refl, sym, ap, ◌∙◌, arith, rules, take_all, length-drop}
-use Rattle.std.proofs.lemmas.Slice.{take-put_mid}
+use Rattle.std.proofs.Common.{◌≡◌, ◌+◌, ◌-◌, ◌*◌, ◌/◌, ◌%◌, ◌++◌, length, take, drop, refl, sym, ap, ◌∙◌, arith, rules, take_all, length-drop, zero-add}
+use Rattle.octets.specs.Octets.{put}
+use Rattle.octets.proofs.PartLaws.{take_put, put-end}
 use Rattle.sha256.specs.Sha256.{chain}
-use Rattle.sha256.proofs.AbsorbLaws.{front, put-end, short, long}
+use Rattle.sha256.proofs.AbsorbLaws.{short, long}
 use Rattle.sha256.proofs.State.absorb.Goals as goal
 
 pub returns-then-n-room : goal.returns-then-n-room
 returns-then-n-room c =
     let s = c.args.self.now in
-    let fill = s.total % 64 in
-    let n : length s.buf ≡ 64 = search rules in
-    let new : c.copy_from_slice.new.self ≡ c.args.piece.now = search rules in (
+    let fill = s.fill in
+    let p = c.args.piece.now in
+    let n : length s.buf ≡ 64 = search rules in (
+      omega arith,
       refl,
-      short s _ c.args.piece.now n refl (omega arith) refl
-          (take-put_mid fill _ s.buf _ _ (ap (λ l. fill + length l) (sym new)) (omega arith) ∙ ap (λ l. take fill s.buf ++ l) new),
+      short s _ p (search rules) n refl (omega arith) refl refl
+          (ap (take (fill + length p)) c.copy.ensures ∙ take_put fill p s.buf (omega arith)),
     )
 
 pub returns-else-n-room : goal.returns-else-n-room
 returns-else-n-room c =
     let s = c.args.self.now in
-    let fill = s.total % 64 in
+    let fill = s.fill in
     let p = c.args.piece.now in
     let a = c.split_at.result.0.now in
     let d = c.split_at.result.1.now in
     let n : length s.buf ≡ 64 = search rules in
     let la : length a ≡ 64 - fill = search rules in
     let whole : a ++ d ≡ p = search rules in
-    let first : c.copy_from_slice-else-n-room.new.self ≡ a = search rules in
-    let last : c.copy_from_slice-else-n-room-2.new.self ≡ drop (length d / 64 * 64) d =
-    c.copy_from_slice-else-n-room-2.ensures.after ∙ take_all _ _ (omega (arith, length-drop (length d / 64 * 64) d)) in (
+    let ld : length (drop (length d / 64 * 64) d) ≡ length d % 64 = length-drop (length d / 64 * 64) d ∙ omega arith in
+    let tail = drop (length d / 64 * 64) d in
+    let b = c.copy-else-n-room.new.dst in
+    let all : take (length d - length d / 64 * 64) tail ≡ tail = take_all _ _ (omega (arith, ld)) in
+    let kept : take (length d % 64) (put 0 tail b) ≡ tail =
+    ap (λ k. take k (put 0 tail b)) (sym (zero-add _ ∙ ld)) ∙ take_put 0 tail b (omega (arith, ld)) in (
+      omega (arith, ld),
       refl,
-      long s _ p n refl a d _ whole la (put-end fill (64 - fill) s.buf c.copy_from_slice-else-n-room.new.self (omega arith) ∙ ap (λ l. take fill s.buf ++ l) first)
+      long s _ p (search rules) n refl a d _ whole la (omega (arith, ld)) (c.copy-else-n-room.ensures ∙ put-end fill a s.buf (omega arith))
           (c.blocks-else-n-room.ensures ∙ ap (λ h. chain (length d / 64) h d) c.compress.ensures)
-          (front c.copy_from_slice-else-n-room-2.new.self _ (length d % 64) (omega (arith, ap length last, length-drop (length d / 64 * 64) d)) ∙ last),
+          (ap (take (length d % 64)) (c.copy-else-n-room-2.ensures ∙ ap (λ l. put 0 l b) all) ∙ kept),
     )
